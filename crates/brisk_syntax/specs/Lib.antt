@@ -1,0 +1,11 @@
+pub mod Counts
+pub mod Depths
+pub mod Expressions
+pub mod Falls
+pub mod Roles
+pub mod Statements
+pub mod Stored
+pub mod Substitution
+pub mod Syntax
+pub mod Texts
+pub mod Value

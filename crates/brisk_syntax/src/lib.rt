@@ -1,0 +1,22 @@
+//! Programs of processes: their trees, and what is done to a tree.
+#![tactic(auto)]
+
+mod copy;
+mod count;
+mod equal;
+mod evaluate;
+mod lists;
+mod program;
+mod substitute;
+mod tree;
+
+pub use copy::{code_from, copy_code, copy_expr, copy_exprs, copy_names};
+pub use count::statements;
+pub use equal::{same_code, same_expr};
+pub use evaluate::eval;
+pub use lists::{Exprs, Names};
+pub use program::{
+    Channel, Channels, Const, Decl, Decls, EnumDecl, Enums, Kinds, Program, Role, Roles,
+};
+pub use substitute::subst;
+pub use tree::{AnyRecv, Block, Code, Expr, Loop, Stmt, Turns, Who};

@@ -23,12 +23,12 @@ abbrev pub coded_who : Coded Who
 coded_who = who.the_row.coded
 
 -- the two parts of a node
-abbrev first : Gv → Gv
+abbrev pub first : Gv → Gv
 first gnil = gnil
 first (gnum n) = gnil
 first (gcons a b) = a
 
-abbrev second : Gv → Gv
+abbrev pub second : Gv → Gv
 second gnil = gnil
 second (gnum n) = gnil
 second (gcons a b) = b
@@ -57,10 +57,10 @@ same_expression x y p = cc
 abbrev pub coded_expression : Coded Expression
 coded_expression = record { code = expression_stored; inj = same_expression }
 
-abbrev coded_expressions : Coded (List Expression)
+abbrev pub coded_expressions : Coded (List Expression)
 coded_expressions = coded_list coded_expression
 
-abbrev coded_names : Coded (List Name)
+abbrev pub coded_names : Coded (List Name)
 coded_names = coded_list coded_name
 
 abbrev mutual

@@ -1,0 +1,5 @@
+pub mod Depths
+pub mod Falls
+pub mod Items
+pub mod Seen
+pub mod Stored

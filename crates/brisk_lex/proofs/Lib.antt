@@ -1,0 +1,11 @@
+pub mod Ascii
+pub mod Begun
+pub mod Broken
+pub mod Chars
+pub mod Count
+pub mod Cutting
+pub mod Encoding
+pub mod Printed
+pub mod Spellable
+pub mod Spellings
+pub mod Steps

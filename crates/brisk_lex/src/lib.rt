@@ -1,0 +1,18 @@
+//! Cuts a text into tokens: names, reserved words, numbers and marks, each with the byte of its beginning.
+#![tactic(auto)]
+
+mod cut;
+mod fault;
+mod laws;
+mod marks;
+mod scan;
+#[cfg(test)]
+mod tests;
+mod text;
+mod token;
+mod words;
+
+pub use fault::LexFault;
+pub use laws::longest;
+pub use text::tokens;
+pub use token::{Mark, Placed, Token, Word};

@@ -1,0 +1,195 @@
+use crate::{LexFault, Mark, Placed, Token, Word, tokens};
+use brisk_values::Name;
+use std::alloc::Global;
+use std::process::Abort;
+use std::test::Fail;
+
+fn fault_of(rt: &impl Abort, alloc: Global, text: &[u8]) -> Option<LexFault> {
+    assert!(rt; text.len() <= 16_777_216);
+    tokens(alloc, text).err()
+}
+
+fn only_token(rt: &impl Abort, alloc: Global, text: &[u8]) -> Result<Option<Placed>, LexFault> {
+    assert!(rt; text.len() <= 16_777_216);
+    let tokens = tokens(alloc, text)?;
+    match tokens.as_slice() {
+        [only] => Ok(Some(*only)),
+        _ => Ok(None),
+    }
+}
+
+#[test]
+fn each_fault_names_its_byte(rt: HostRuntime) {
+    let long_name = [b'a'; 65];
+    let mut long_and_broken = [b'a'; 66];
+    long_and_broken[65] = 0xFF;
+    let mut fits_and_ends = [b'a'; 65];
+    fits_and_ends[64] = 0xC3;
+    let cases: [(&[u8], LexFault); 24] = [
+        (b"\xFF", LexFault::NotUtf8(0)),
+        (b"a\x80", LexFault::NotUtf8(1)),
+        (b"\xE2\x82\xFF", LexFault::NotUtf8(2)),
+        (b"\xED\xA0\x80", LexFault::NotUtf8(1)),
+        (b"\xE0\x80", LexFault::NotUtf8(1)),
+        (b"\xF4\x90", LexFault::NotUtf8(1)),
+        (b"\xF0\x9F\x98", LexFault::NotUtf8(3)),
+        (b"\xF5", LexFault::NotUtf8(0)),
+        (b"\xC0\x80", LexFault::NotUtf8(0)),
+        (b"a \xE2\x82", LexFault::NotUtf8(4)),
+        (b"// \xFF", LexFault::NotUtf8(3)),
+        (b"&\xFF", LexFault::BadChar(0)),
+        (b"a&\xE2\x82", LexFault::BadChar(1)),
+        (b"a /b", LexFault::BadChar(2)),
+        (b"a | | b", LexFault::BadChar(2)),
+        (b"\xCE\xB1 \xE2\x82\xAC", LexFault::BadChar(3)),
+        (b"\xEF\xBB\xBFa", LexFault::BadChar(0)),
+        (b"a\x0Bb", LexFault::BadChar(1)),
+        (b"$ \xFF", LexFault::BadChar(0)),
+        (b" 9223372036854775809", LexFault::NumberTooLarge(1)),
+        (b"1 99999999999999999999999999", LexFault::NumberTooLarge(2)),
+        (&long_name, LexFault::NameTooLong(0)),
+        (&long_and_broken, LexFault::NameTooLong(0)),
+        (&fits_and_ends, LexFault::NotUtf8(65)),
+    ];
+    for (text, fault) in cases {
+        assert_eq!(rt; fault_of(&rt, rt.alloc(), text), Some(fault), "at {text:?}");
+    }
+}
+
+#[test]
+fn each_word_and_mark_has_its_spelling(rt: HostRuntime) -> Result<(), Fail> {
+    let words: [(&[u8], Word); 27] = [
+        (b"enum", Word::KwEnum),
+        (b"channel", Word::KwChannel),
+        (b"one", Word::KwOne),
+        (b"many", Word::KwMany),
+        (b"nonempty", Word::KwNonempty),
+        (b"var", Word::KwVar),
+        (b"input", Word::KwInput),
+        (b"int", Word::KwInt),
+        (b"bool", Word::KwBool),
+        (b"true", Word::KwTrue),
+        (b"false", Word::KwFalse),
+        (b"send", Word::KwSend),
+        (b"to", Word::KwTo),
+        (b"recv", Word::KwRecv),
+        (b"from", Word::KwFrom),
+        (b"any", Word::KwAny),
+        (b"in", Word::KwIn),
+        (b"if", Word::KwIf),
+        (b"else", Word::KwElse),
+        (b"while", Word::KwWhile),
+        (b"for", Word::KwFor),
+        (b"repeat", Word::KwRepeat),
+        (b"begin", Word::KwBegin),
+        (b"end", Word::KwEnd),
+        (b"box", Word::KwBox),
+        (b"pick", Word::KwPick),
+        (b"loose", Word::KwLoose),
+    ];
+    for (text, word) in words {
+        let token = Token::Word(word);
+        assert_eq!(rt;
+            only_token(&rt, rt.alloc(), text)?,
+            Some(Placed { token, at: 0 })
+        );
+    }
+    let marks: [(&[u8], Mark); 23] = [
+        (b"{", Mark::LBrace),
+        (b"}", Mark::RBrace),
+        (b"(", Mark::LParen),
+        (b")", Mark::RParen),
+        (b",", Mark::Comma),
+        (b";", Mark::Semi),
+        (b":", Mark::Colon),
+        (b":=", Mark::Assign),
+        (b"=", Mark::Equals),
+        (b".", Mark::Dot),
+        (b"#", Mark::Hash),
+        (b"+", Mark::Plus),
+        (b"-", Mark::Minus),
+        (b"*", Mark::Star),
+        (b"==", Mark::EqEq),
+        (b"!=", Mark::NotEq),
+        (b"<", Mark::Less),
+        (b"<=", Mark::LessEq),
+        (b">", Mark::Greater),
+        (b">=", Mark::GreaterEq),
+        (b"&&", Mark::AndAnd),
+        (b"||", Mark::OrOr),
+        (b"!", Mark::Bang),
+    ];
+    for (text, mark) in marks {
+        let token = Token::Mark(mark);
+        assert_eq!(rt;
+            only_token(&rt, rt.alloc(), text)?,
+            Some(Placed { token, at: 0 })
+        );
+    }
+    Ok(())
+}
+
+#[test]
+fn names_are_of_any_script(rt: HostRuntime) -> Result<(), Fail> {
+    let longest = [b'a'; 64];
+    let names: [&[u8]; 8] = [
+        b"_",
+        b"x1",
+        b"ifx",
+        b"If",
+        b"\xCE\xA9",
+        b"\xCE\xB1\xCC\x81_2",
+        b"\xE5\x90\x8D\xE5\x89\x8D",
+        &longest,
+    ];
+    for bytes in names {
+        let token = Token::Name(Name::new(bytes).ok_or("no name")?);
+        assert_eq!(rt;
+            only_token(&rt, rt.alloc(), bytes)?,
+            Some(Placed { token, at: 0 })
+        );
+    }
+    Ok(())
+}
+
+#[test]
+fn numbers_have_leading_zeros_and_a_greatest(rt: HostRuntime) -> Result<(), Fail> {
+    let numbers: [(&[u8], u64); 5] = [
+        (b"0", 0),
+        (b"007", 7),
+        (b"00000000000000000000000000000000000010", 10),
+        (b"9223372036854775807", 9_223_372_036_854_775_807),
+        (b"9223372036854775808", 9_223_372_036_854_775_808),
+    ];
+    for (text, number) in numbers {
+        let token = Token::Num(number);
+        assert_eq!(rt;
+            only_token(&rt, rt.alloc(), text)?,
+            Some(Placed { token, at: 0 })
+        );
+    }
+    Ok(())
+}
+
+#[test]
+fn tokens_stand_between_spaces_and_comments(rt: HostRuntime) -> Result<(), Fail> {
+    let text = b"// first\r\n\tx:===1a//\xCE\xA9\n  // last";
+    let places = [
+        (Token::Name(Name::new(b"x").ok_or("no name")?), 11),
+        (Token::Mark(Mark::Assign), 12),
+        (Token::Mark(Mark::EqEq), 14),
+        (Token::Num(1), 16),
+        (Token::Name(Name::new(b"a").ok_or("no name")?), 17),
+    ];
+    let found = tokens(rt.alloc(), text)?;
+    assert_eq!(rt; found.len(), places.len());
+    for (found, (token, at)) in found.iter().zip(places) {
+        assert_eq!(rt; *found, Placed { token, at });
+    }
+    let blank: [&[u8]; 4] = [b"", b" \t\r\n", b"//", b"// a\n//\n"];
+    for text in blank {
+        assert!(rt; text.len() <= 16_777_216);
+        assert!(rt; tokens(rt.alloc(), text)?.is_empty());
+    }
+    Ok(())
+}

@@ -8,6 +8,8 @@ mod evaluate;
 mod lists;
 mod program;
 mod substitute;
+#[cfg(test)]
+mod tests;
 mod tree;
 
 pub use copy::{code_from, copy_code, copy_expr, copy_exprs, copy_names};

@@ -62,3 +62,24 @@ impl Store {
         })
     }
 }
+
+#[cfg(test)]
+mod tests {
+    use super::*;
+    use std::test::Fail;
+
+    #[test]
+    fn a_copy_keeps_its_values(rt: HostRuntime) -> Result<(), Fail> {
+        let role = Name::new(b"Ws").unwrap();
+        let x = Name::new(b"x").unwrap();
+        let process = Pid { role, member: 3 };
+        let mut store = Store::new(rt.alloc());
+        store.set(process, x, Value::Int(7))?;
+        let copy = store.copy()?;
+        store.set(process, x, Value::Bool(true))?;
+        assert_eq!(rt; copy.get(process, x), Some(Value::Int(7)));
+        assert_eq!(rt; store.get(process, x), Some(Value::Bool(true)));
+        assert_eq!(rt; copy.get(process, role), None);
+        Ok(())
+    }
+}

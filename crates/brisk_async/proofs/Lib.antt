@@ -1,0 +1,9 @@
+pub mod Alone
+pub mod Begins
+pub mod Expressions
+pub mod Kinded
+pub mod Members
+pub mod Named
+pub mod Orders
+pub mod Queues
+pub mod Runs

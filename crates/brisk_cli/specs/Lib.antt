@@ -1,0 +1,4 @@
+pub mod Answers
+pub mod Files
+pub mod Fragment
+pub mod Rewriting

@@ -1,0 +1,13 @@
+pub mod Codes
+pub mod Denoted
+pub mod Found
+pub mod FoundExpressions
+pub mod FoundStatements
+pub mod FoundPrograms
+pub mod OnlyExpressions
+pub mod OnlyPrograms
+pub mod OnlyStatements
+pub mod OnlyTokens
+pub mod Outcomes
+pub mod Repetitions
+pub mod Tails

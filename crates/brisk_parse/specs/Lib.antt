@@ -1,0 +1,11 @@
+pub mod Answers
+pub mod Declarations
+pub mod Expressions
+pub mod Input
+pub mod Levelled
+pub mod Limits
+pub mod Outcomes
+pub mod Reading
+pub mod Spelling
+pub mod Statements
+pub mod Within

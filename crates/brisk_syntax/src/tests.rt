@@ -1,0 +1,75 @@
+//! Codes made, changed and compared.
+use crate::{
+    Block, Code, Expr, Exprs, Loop, Names, Stmt, Who, code_from, copy_code, copy_expr, copy_exprs,
+    copy_names, same_code, same_expr, subst,
+};
+use brisk_values::{Name, Pid};
+use std::alloc::Global;
+use std::rc::Rc;
+use std::test::Fail;
+
+fn named(bytes: &[u8]) -> Name {
+    Name::new(bytes).unwrap()
+}
+
+// `for u in Us { send T(1) to v; }`, where v is this partner.
+fn turns(alloc: Global, partner: Who) -> Result<Block, Fail> {
+    let exprs = Exprs {
+        items: vec![in alloc; Expr::Num(1)]?,
+    };
+    let body = Block {
+        items: vec![in alloc; Stmt::Send(named(b"T"), exprs, partner)]?,
+    };
+    let turns = Loop {
+        binder: named(b"u"),
+        set: named(b"Us"),
+        turn: 0,
+        body: Rc::new(alloc, body)?,
+    };
+    Ok(Block {
+        items: vec![in alloc; Stmt::For(turns)]?,
+    })
+}
+
+#[test]
+fn a_binder_is_replaced_in_the_bodies_of_others(rt: HostRuntime) -> Result<(), Fail> {
+    let alloc = rt.alloc();
+    let member = Who::Pid(Pid {
+        role: named(b"Ws"),
+        member: 3,
+    });
+    let named_v = turns(alloc, Who::Name(named(b"v")))?;
+    let replaced = code_from(alloc, &subst(alloc, &named_v, named(b"v"), member)?)?;
+    let other = code_from(alloc, &subst(alloc, &named_v, named(b"w"), member)?)?;
+    let expected = code_from(alloc, &turns(alloc, member)?)?;
+    assert!(rt; same_code(&replaced, &expected));
+    assert!(rt; same_code(&other, &code_from(alloc, &named_v)?));
+    assert!(rt; !same_code(&other, &expected));
+    Ok(())
+}
+
+#[test]
+fn a_copy_is_the_same(rt: HostRuntime) -> Result<(), Fail> {
+    let alloc = rt.alloc();
+    let code: Code = code_from(alloc, &turns(alloc, Who::At(named(b"Us")))?)?;
+    assert!(rt; same_code(&copy_code(alloc, &code)?, &code));
+    let size = Expr::Size(named(b"Us"));
+    assert!(rt; same_expr(&copy_expr(alloc, &size)?, &size));
+    let exprs = Exprs {
+        items: vec![in alloc; size]?,
+    };
+    assert!(rt;
+        same_expr(
+            &copy_exprs(alloc, &exprs)?.items[0],
+            &Expr::Size(named(b"Us"))
+        )
+    );
+    let names = Names {
+        items: vec![in alloc; named(b"x"); 2]?,
+    };
+    assert_eq!(rt;
+        copy_names(alloc, &names)?.items.as_slice(),
+        names.items.as_slice()
+    );
+    Ok(())
+}

@@ -1,5 +1,5 @@
 -- The next statement of a role.
-use Rattle.std.proofs.Common.{◌≡◌, ℕ, zero, suc, ◌+◌, ◌<◌, ◌≤◌, List, [], ◌∷◌, length, map, get_or, Option, Some, None, refl, sym, ap, ◌∙◌, arith}
+use Rattle.std.proofs.Common.{◌≡◌, ℕ, zero, suc, ◌<◌, List, [], ◌∷◌, length, map, get_or, Option, Some, None, refl, sym, ap, ◌∙◌, arith}
 use Rattle.std.specs.Prelude.{slice_get, option_map, option_and_then}
 use Rattle.std.proofs.lemmas.Option.{slice_get-map, slice_get_read, slice_get_past, slice_get-get_or}
 use Rattle.std.specs.Option.{option_copied}
@@ -9,7 +9,6 @@ use Rattle.brisk_syntax.specs.declared.program.Role.{Role}
 use Rattle.brisk_syntax.specs.declared.tree.Stmt.{Stmt}
 use Rattle.brisk_syntax.specs.Statements.{code_of, statement_of}
 use Rattle.brisk_syntax.specs.Texts.{text_of}
-use Rattle.brisk_syntax.specs.Syntax.{Code}
 use Rattle.brisk_syntax.specs.Roles.{RoleText}
 use Rattle.brisk_cli.specs.Rewriting.{Done, statement_at, next, name_at, done_at}
 

@@ -1,14 +1,14 @@
 -- Each step does a statement more, so steps come to an end.
-use Rattle.std.proofs.Common.{◌≡◌, ℕ, zero, suc, ◌+◌, ◌-◌, ◌<◌, ◌≤◌, ◌⊎◌, inl, inr, Bool, true, false, List, [], ◌∷◌, ◌++◌, length, map, Option, Some, None, refl, sym, ap, subst, ◌∙◌, arith}
-use Rattle.std.specs.Prelude.{slice_get, slice_set, replicate, option_and_then, ◌&&◌, if◌then◌else◌}
+use Rattle.std.proofs.Common.{◌≡◌, ℕ, zero, suc, ◌+◌, ◌-◌, ◌<◌, ◌≤◌, ◌⊎◌, inl, inr, Bool, true, false, List, [], ◌∷◌, ◌++◌, length, Option, Some, None, refl, sym, ap, arith}
+use Rattle.std.specs.Prelude.{replicate, option_and_then, ◌&&◌, if◌then◌else◌}
 use Rattle.std.proofs.lemmas.Option.{same_Some, slice_get_past}
 use Rattle.brisk_values.specs.Names.{Name, same_name}
 use Rattle.brisk_syntax.specs.declared.tree.Who.TheVariants as who
 use Rattle.brisk_syntax.specs.Roles.{RoleText}
-use Rattle.brisk_syntax.specs.Syntax.{Expression, Statement, Assign, Send, Recv, RecvAny, If, IfElse, While, For, Repeat, Code, done, ◌⨾◌}
+use Rattle.brisk_syntax.specs.Syntax.{Expression, Statement, Assign, Send, Recv, Code, done, ◌⨾◌}
 use Rattle.brisk_seq.specs.declared.tree.Seq.{Seq}
 use Rattle.brisk_seq.specs.Seen.{item_of, items_of}
-use Rattle.brisk_seq.specs.Items.{Item, Items, nothing, ◌⨟◌, ◌followed_by◌}
+use Rattle.brisk_seq.specs.Items.{Item, nothing, ◌⨟◌, ◌followed_by◌}
 use Rattle.brisk_cli.specs.Rewriting.{Done, done_at, start, statement_at, next, one_done, name_at, place_of, passed, by_head, step}
 
 abbrev pub code_length : Code → ℕ

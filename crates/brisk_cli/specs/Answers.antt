@@ -1,5 +1,5 @@
 -- What is answered for words and files.
-use Rattle.std.specs.Prelude.{◌≡◌, ℕ, ◌≤◌, ◌<◌, nat_le, Bool, true, false, if◌then◌else◌, List, [], ◌∷◌, ◌++◌, length, take, codes, slice_get, Option, Some, None, option_map, Result, Ok, Err}
+use Rattle.std.specs.Prelude.{◌≡◌, ℕ, nat_le, Bool, true, false, if◌then◌else◌, List, [], ◌∷◌, ◌++◌, length, take, codes, slice_get, Option, Some, None, option_map, Result, Ok, Err}
 use Rattle.std.specs.Option.{unwrap_or}
 use Rattle.std.specs.Str.{bytes_eq}
 use Rattle.std.specs.Fmt.{decimal}
@@ -10,7 +10,7 @@ use Rattle.brisk_lex.specs.declared.fault.LexFault.TheVariants as lex
 use Rattle.brisk_lex.specs.Tokens.{tokens}
 use Rattle.brisk_parse.specs.declared.fault.ParseFault.{ParseFault}
 use Rattle.brisk_parse.specs.declared.fault.ParseFault.TheVariants as parse
-use Rattle.brisk_parse.specs.Answers.{Read, IsDenoted}
+use Rattle.brisk_parse.specs.Answers.{Read, IsAnswer}
 use Rattle.brisk_parse.specs.Declarations.{program}
 use Rattle.brisk_parse.specs.Limits.{source}
 use Rattle.brisk_print.specs.Layout.{sequential}
@@ -82,11 +82,11 @@ OfReading ts end (Ok P) status text = OfProgram (in_fragment P) P status text
 OfReading ts end (Err parse.NoMemory) status text = ⊥
 OfReading ts end (Err fault) status text = (status ≡ BadInput) × (text ≡ parse_text ts end fault)
 
--- the answer for tokens: what they are read as is the program that they denote, or the fault
+-- the answer for tokens: they are read as the program that they denote, or as the first fault
 pub record OfTokens (ts : List Placed) (end : ℕ) (status : Status) (text : Text) : Type 0 where
   pub reading : Result Program ParseFault
   pub read : Read (length ts) (program source ts) reading
-  pub denoted : IsDenoted ts reading
+  pub answer : IsAnswer ts reading
   pub answered : OfReading ts end reading status text
 
 abbrev pub OfCut : ℕ → Result (List Placed) LexFault → Status → Text → Type 0

@@ -4,9 +4,7 @@ use Rattle.std.specs.List.{list_any, list_all}
 use Rattle.brisk_values.specs.Names.{Name, same_name}
 use Rattle.brisk_values.specs.declared.value.Kind.{Kind}
 use Rattle.brisk_values.specs.declared.value.Kind.TheVariants as kinds
-use Rattle.brisk_values.specs.declared.operation.Op1.{Op1}
 use Rattle.brisk_values.specs.declared.operation.Op1.TheVariants as op1
-use Rattle.brisk_values.specs.declared.operation.Op2.{Op2}
 use Rattle.brisk_values.specs.declared.operation.Op2.TheVariants as op2
 use Rattle.brisk_syntax.specs.declared.program.Const.TheVariants as const
 use Rattle.brisk_syntax.specs.declared.program.Decl.{Decl}
@@ -16,7 +14,7 @@ use Rattle.brisk_syntax.specs.declared.program.EnumDecl.{EnumDecl}
 use Rattle.brisk_syntax.specs.declared.program.Program.{Program}
 use Rattle.brisk_syntax.specs.declared.tree.Who.TheVariants as who
 use Rattle.brisk_syntax.specs.Roles.{RoleText}
-use Rattle.brisk_syntax.specs.Syntax.{Expression, Num, Truth, Var, Tag, Size, Paren, Un, Bin, Statement, Assign, Send, Recv, Code, done, ◌⨾◌}
+use Rattle.brisk_syntax.specs.Syntax.{Expression, Num, Var, Paren, Un, Bin, Statement, Assign, Send, Recv, Code, done, ◌⨾◌}
 
 -- the name is one of these
 abbrev pub has : Name → List Name → Bool

@@ -1,5 +1,5 @@
 -- Rewriting by assignments and passes.
-use Rattle.std.specs.Prelude.{◌≡◌, ℕ, zero, suc, ◌+◌, ◌-◌, ◌&&◌, List, [], ◌∷◌, map, slice_get, slice_set, Option, Some, None, option_and_then, if◌then◌else◌}
+use Rattle.std.specs.Prelude.{◌≡◌, ℕ, zero, suc, ◌+◌, ◌&&◌, List, [], ◌∷◌, map, slice_get, slice_set, Option, Some, None, option_and_then, if◌then◌else◌}
 use Rattle.std.specs.List.{slice_index_or}
 use Rattle.brisk_values.specs.Names.{Name, same_name}
 use Rattle.brisk_syntax.specs.declared.program.Program.{Program}

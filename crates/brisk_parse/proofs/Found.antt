@@ -68,7 +68,7 @@ parts5 a b c d e k = simp append_assoc refl
 
 -- ---- single tokens
 
-is_the_token : (k u : Token) → is_token k (Some u) ≡ true → u ≡ k
+pub is_the_token : (k u : Token) → is_token k (Some u) ≡ true → u ≡ k
 is_the_token (t.Mark k) (t.Mark l) h = ap t.Mark (same_true mark.the_type (search rules) l k h)
 is_the_token (t.Word k) (t.Word l) h = ap t.Word (same_true word.the_type (search rules) l k h)
 is_the_token (t.Name x) (t.Name y) h = ap t.Name (exact_name y x h)
@@ -105,7 +105,7 @@ number_found_at (_ ∷ rest) r n = found_err _ _
 pub number_found : (i : Input) → Found (number i) (Plain (λ n. t.Num n ∷ []) Any i)
 number_found i = number_found_at i.rest i.room i.statements
 
-positive : (n : ℕ) → nat_eq n 0 ≡ false → n ≡ 1 + (n - 1)
+pub positive : (n : ℕ) → nat_eq n 0 ≡ false → n ≡ 1 + (n - 1)
 positive zero h = absurd cc
 positive (suc n) h = omega arith
 

@@ -64,12 +64,12 @@ number level.Sum = 3
 number level.Product = 4
 
 -- the token is the operator, whose operands stand at a level and the next
-record IsOperator (a b : ℕ) (rest : List Token) (op : Op2) : Type 0 where
-  spelled : rest ≡ t.Mark (spell.operator2 op) ∷ drop 1 rest
-  here : operator_level op ≡ a
-  left : left_level op ≡ b
+pub record IsOperator (a b : ℕ) (rest : List Token) (op : Op2) : Type 0 where
+  pub spelled : rest ≡ t.Mark (spell.operator2 op) ∷ drop 1 rest
+  pub here : operator_level op ≡ a
+  pub left : left_level op ≡ b
 
-operator_found : (l : Level) (rest : List Token) (op : Op2) → operator l (first rest) ≡ Some op → IsOperator (number l) (number l) rest op
+pub operator_found : (l : Level) (rest : List Token) (op : Op2) → operator l (first rest) ≡ Some op → IsOperator (number l) (number l) rest op
 operator_found level.Or (t.Mark m.OrOr ∷ rest) op2.Or h = record { spelled = refl; here = refl; left = refl }
 operator_found level.And (t.Mark m.AndAnd ∷ rest) op2.And h = record { spelled = refl; here = refl; left = refl }
 operator_found level.Sum (t.Mark m.Plus ∷ rest) op2.Add h = record { spelled = refl; here = refl; left = refl }
@@ -77,7 +77,7 @@ operator_found level.Sum (t.Mark m.Minus ∷ rest) op2.Sub h = record { spelled 
 operator_found level.Product (t.Mark m.Star ∷ rest) op2.Mul h = record { spelled = refl; here = refl; left = refl }
 operator_found _ _ _ h = absurd cc
 
-comparison_found : (rest : List Token) (op : Op2) → comparison_operator (first rest) ≡ Some op → IsOperator 2 3 rest op
+pub comparison_found : (rest : List Token) (op : Op2) → comparison_operator (first rest) ≡ Some op → IsOperator 2 3 rest op
 comparison_found (t.Mark m.EqEq ∷ rest) op2.Eq h = record { spelled = refl; here = refl; left = refl }
 comparison_found (t.Mark m.NotEq ∷ rest) op2.Ne h = record { spelled = refl; here = refl; left = refl }
 comparison_found (t.Mark m.Less ∷ rest) op2.Lt h = record { spelled = refl; here = refl; left = refl }

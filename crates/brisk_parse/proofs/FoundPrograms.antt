@@ -218,16 +218,16 @@ module _ (l : Limits) where
   -- ---- programs
 
   -- all but the number of statements
-  record ProgramFits (P : Program) : Type 0 where
-    levelled : LevelledProgram P
-    enums : length P.enums ≤ l.enums
-    each_enum : AllByRecursion (EnumWithin l) P.enums
-    channels : length P.channels ≤ l.channels
-    each_channel : AllByRecursion (ChannelWithin l) P.channels
-    roles : length P.roles ≤ l.roles
-    each_role : AllByRecursion (RoleWithin l) P.roles
+  pub record ProgramFits (P : Program) : Type 0 where
+    pub levelled : LevelledProgram P
+    pub enums : length P.enums ≤ l.enums
+    pub each_enum : AllByRecursion (EnumWithin l) P.enums
+    pub channels : length P.channels ≤ l.channels
+    pub each_channel : AllByRecursion (ChannelWithin l) P.channels
+    pub roles : length P.roles ≤ l.roles
+    pub each_role : AllByRecursion (RoleWithin l) P.roles
 
-  whole_found : (i : Input) → Found (whole l i) (Spelled spell.spelling counts.program_statements ProgramFits i)
+  pub whole_found : (i : Input) → Found (whole l i) (Spelled spell.spelling counts.program_statements ProgramFits i)
   unfolding whole
   whole_found i =
       found_then _ _ (list_of begins_enumeration (enumeration l) l.enums i) _ (plain (spell.all_of spell.enumeration) _ _ (list_of begins_enumeration (enumeration l) l.enums i) i (λ es h. h) (list_found spell.enumeration (λ _. 0) EnumFits begins_enumeration (enumeration l) enumeration_found l.enums i)) (λ es j1 a1.

@@ -1,5 +1,7 @@
 pub mod Codes
 pub mod Denoted
+pub mod Enough
+pub mod Faulty
 pub mod Found
 pub mod FoundExpressions
 pub mod FoundStatements
@@ -9,5 +11,10 @@ pub mod OnlyPrograms
 pub mod OnlyStatements
 pub mod OnlyTokens
 pub mod Outcomes
+pub mod PredictExpressions
+pub mod PredictLists
+pub mod PredictStatements
+pub mod PredictPrograms
+pub mod Predictive
 pub mod Repetitions
 pub mod Tails

@@ -54,7 +54,7 @@ binding_of op2.Add = refl
 binding_of op2.Sub = refl
 binding_of op2.Mul = refl
 
-no_operator : (l : Level) (o : Option Token) → binding o ≤ number l → operator l o ≡ None
+pub no_operator : (l : Level) (o : Option Token) → binding o ≤ number l → operator l o ≡ None
 no_operator level.Or (Some (t.Mark m.OrOr)) h = absurd (omega (arith, h))
 no_operator level.And (Some (t.Mark m.AndAnd)) h = absurd (omega (arith, h))
 no_operator level.Sum (Some (t.Mark m.Plus)) h = absurd (omega (arith, h))
@@ -62,7 +62,7 @@ no_operator level.Sum (Some (t.Mark m.Minus)) h = absurd (omega (arith, h))
 no_operator level.Product (Some (t.Mark m.Star)) h = absurd (omega (arith, h))
 no_operator _ _ h = refl
 
-no_comparison : (o : Option Token) → binding o ≤ 2 → comparison_operator o ≡ None
+pub no_comparison : (o : Option Token) → binding o ≤ 2 → comparison_operator o ≡ None
 no_comparison (Some (t.Mark m.EqEq)) h = absurd (omega (arith, h))
 no_comparison (Some (t.Mark m.NotEq)) h = absurd (omega (arith, h))
 no_comparison (Some (t.Mark m.Less)) h = absurd (omega (arith, h))
@@ -71,7 +71,7 @@ no_comparison (Some (t.Mark m.Greater)) h = absurd (omega (arith, h))
 no_comparison (Some (t.Mark m.GreaterEq)) h = absurd (omega (arith, h))
 no_comparison _ h = refl
 
-no_dot : (o : Option Token) → binding o ≤ 5 → is_token (t.Mark m.Dot) o ≡ false
+pub no_dot : (o : Option Token) → binding o ≤ 5 → is_token (t.Mark m.Dot) o ≡ false
 no_dot (Some (t.Mark m.Dot)) h = absurd (omega (arith, h))
 no_dot _ h = refl
 
@@ -114,7 +114,7 @@ small_operator _ = omega arith
 -- ---- chains
 
 -- p reads the expression where no token of a tighter level than n follows
-abbrev Gives : ℕ → Parser Expression → Expression → Type 0
+abbrev pub Gives : ℕ → Parser Expression → Expression → Type 0
 Gives n p e = (k : List Token) (s r c : ℕ) → s ≡ size e + r → binding (first k) ≤ n → p (at (spell.expression e ++ k) s c) ≡ Ok (e, at k r c)
 
 tail_end : (l : Level) (next : Parser Expression) (n : ℕ) (e : Expression) (k : List Token) (r c : ℕ) → binding (first k) ≤ number l → tail l next n e (at k r c) ≡ Ok (e, at k r c)
@@ -131,17 +131,17 @@ tail_on l next (suc n) op e f k rest s r c le h read =
 
 module _ (n : ℕ) where
   -- the expression is read as the first operands of a chain, and so many may follow
-  record Run (l : Level) (e : Expression) : Type 0 where
-    left : ℕ
-    enough : n ≤ left + size e
-    runs : (k : List Token) (s r c : ℕ) → s ≡ size e + r → binding (first k) ≤ 1 + number l → and_then (operand l n (unary n) (at (spell.expression e ++ k) s c)) (λ e. tail l (operand l n (unary n)) n e) ≡ tail l (operand l n (unary n)) left e (at k r c)
+  pub record Run (l : Level) (e : Expression) : Type 0 where
+    pub left : ℕ
+    pub enough : n ≤ left + size e
+    pub runs : (k : List Token) (s r c : ℕ) → s ≡ size e + r → binding (first k) ≤ 1 + number l → and_then (operand l n (unary n) (at (spell.expression e ++ k) s c)) (λ e. tail l (operand l n (unary n)) n e) ≡ tail l (operand l n (unary n)) left e (at k r c)
 
   -- how the expression is read at each level that it has
-  record IsRead (e : Expression) : Type 0 where
-    alone : 5 ≤ level e → Gives 5 (unary n) e
-    compared : 2 ≤ level e → Gives 2 (comparison n (unary n)) e
-    chained : (l : Level) → number l ≤ level e → Gives (number l) (chain l n (unary n)) e
-    run : (l : Level) → number l ≤ level e → Run l e
+  pub record IsRead (e : Expression) : Type 0 where
+    pub alone : 5 ≤ level e → Gives 5 (unary n) e
+    pub compared : 2 ≤ level e → Gives 2 (comparison n (unary n)) e
+    pub chained : (l : Level) → number l ≤ level e → Gives (number l) (chain l n (unary n)) e
+    pub run : (l : Level) → number l ≤ level e → Run l e
 
   operand_read : (e : Expression) → IsRead e → (l : Level) → 1 + number l ≤ level e → Gives (1 + number l) (operand l n (unary n)) e
   operand_read e h level.Or le = h.chained level.And le
@@ -213,7 +213,7 @@ module _ (n : ℕ) where
 
 -- ---- expressions
 
-reads : (n : ℕ) (e : Expression) → size e ≤ n → Levelled e → IsRead n e
+pub reads : (n : ℕ) (e : Expression) → size e ≤ n → Levelled e → IsRead n e
 unfolding unary take take_name variable_or_tag
 reads zero (Num x) le l = absurd (omega (arith, le))
 reads zero (Truth true) le l = absurd (omega (arith, le))

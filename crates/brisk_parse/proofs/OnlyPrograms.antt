@@ -149,7 +149,7 @@ module _ (l : Limits) where
       let sum = sum_by-cons (λ (r : RoleText). counts.statements r.code) r rs in
       (record { levelled = levelled.0; within = within.0; count = omega (arith, most, le, sum) }, all_fit n rs most (omega (arith, le, sum)) levelled.1 within.1)
 
-  whole_only : (P : Program) (s : ℕ) → LevelledProgram P → Within l P → whole l (at (spell.spelling P) s l.statements) ≡ Ok (P, at [] s (l.statements - counts.program_statements P))
+  pub whole_only : (P : Program) (s : ℕ) → LevelledProgram P → Within l P → whole l (at (spell.spelling P) s l.statements) ≡ Ok (P, at [] s (l.statements - counts.program_statements P))
   unfolding whole
   whole_only P s levelled within =
       let es = spell.all_of spell.enumeration P.enums in

@@ -2,6 +2,8 @@
 use Rattle.std.specs.Prelude.{◌≡◌, ℕ, ◌-◌, List, Result, Ok, Err}
 use Rattle.brisk_lex.specs.declared.token.Placed.{Placed}
 use Rattle.brisk_syntax.specs.declared.program.Program.{Program}
+use Rattle.brisk_parse.specs.Faults.{IsFault}
+use Rattle.brisk_parse.specs.Input.{tokens_of}
 use Rattle.brisk_parse.specs.Within.{Denotes}
 use Rattle.brisk_parse.specs.declared.fault.Stop.{Stop}
 use Rattle.brisk_parse.specs.declared.fault.Stop.TheVariants as stop
@@ -35,8 +37,8 @@ abbrev pub Read : {A : Type 0} → ℕ → Result A Stop → Result A ParseFault
 Read total read (Err NoMemory) = Unit {0}
 Read total read result = result ≡ faulted total read
 
--- Ok with the program that the tokens denote, a fault where they denote none, or want of memory
-abbrev pub IsDenoted : List Placed → Result Program ParseFault → Type 0
-IsDenoted tokens (Ok P) = Denotes tokens P
-IsDenoted tokens (Err NoMemory) = Unit {0}
-IsDenoted tokens (Err fault) = (P : Program) → Denotes tokens P → ⊥
+-- Ok with the program that the tokens denote; where they denote none, the first token at fault; or want of memory
+abbrev pub IsAnswer : List Placed → Result Program ParseFault → Type 0
+IsAnswer tokens (Ok P) = Denotes tokens P
+IsAnswer tokens (Err NoMemory) = Unit {0}
+IsAnswer tokens (Err fault) = IsFault (tokens_of tokens) fault × ((P : Program) → Denotes tokens P → ⊥)

@@ -1,6 +1,7 @@
 pub mod Answers
 pub mod Declarations
 pub mod Expressions
+pub mod Faults
 pub mod Input
 pub mod Levelled
 pub mod Limits

@@ -4,7 +4,7 @@ ghost use Rattle.brisk_syntax.specs.Texts.{text_of};
 ghost use Rattle.brisk_parse.specs.Declarations as spec;
 ghost use Rattle.brisk_parse.specs.Limits.{source};
 ghost use Rattle.brisk_parse.specs.Outcomes.{Reads};
-ghost use Rattle.brisk_parse.specs.Answers.{Answers, IsDenoted, Read};
+ghost use Rattle.brisk_parse.specs.Answers.{Answers, IsAnswer, Read};
 
 use crate::declarations::flag;
 use crate::fault::{ParseFault, Stop};
@@ -139,7 +139,7 @@ fn read(alloc: Global, tokens: &[Placed]) -> Result<Program, Stop>
 pub fn program(alloc: Global, tokens: &[Placed]) -> Result<Program, ParseFault>
     requires { length tokens.now ≤ 16777216 }
     ensures read { Read (length tokens.now) (spec.program source tokens.now) result }
-    ensures denoted { IsDenoted tokens.now result }
+    ensures answer { IsAnswer tokens.now result }
 {
     match read(alloc, tokens) {
         Ok(program) => Ok(program),

@@ -1,13 +1,12 @@
 -- The layout of programs and of their parts, as bytes, by recursion on the tree. Two spaces of indentation stand for
 -- each level, and one line for each declaration, statement, item and closing bracket.
-use Rattle.std.specs.Prelude.{ℕ, Bool, true, false, List, [], ◌∷◌, ◌++◌, map, codes}
+use Rattle.std.specs.Prelude.{ℕ, Bool, true, false, ◌&&◌, List, [], ◌∷◌, ◌++◌, map, codes}
 use Rattle.std.specs.Fmt.{decimal, signed_decimal}
 use Rattle.brisk_values.specs.Names.{Name}
 use Rattle.brisk_values.specs.declared.value.Value.{Value}
 use Rattle.brisk_values.specs.declared.value.Value.TheVariants as value
 use Rattle.brisk_values.specs.declared.value.Kind.{Kind}
 use Rattle.brisk_values.specs.declared.value.Kind.TheVariants as kinds
-use Rattle.brisk_values.specs.declared.value.Pid.{Pid}
 use Rattle.brisk_values.specs.declared.operation.Op1.{Op1}
 use Rattle.brisk_values.specs.declared.operation.Op1.TheVariants as op1
 use Rattle.brisk_values.specs.declared.operation.Op2.{Op2}
@@ -132,6 +131,17 @@ enumeration e = codes "enum " ++ e.name ++ codes " { " ++ names e.tags ++ codes 
 abbrev pub enumerations : List EnumDecl → Text
 enumerations es = joined (map enumeration es)
 
+abbrev pub channel_end : Bool → Text
+channel_end true = codes ") loose;\n"
+channel_end false = codes ");\n"
+
+-- a channel, with the kinds of one message
+abbrev pub channel : Channel → Text
+channel c = codes "channel " ++ c.name ++ codes "(" ++ with_commas (map kind c.kinds) ++ channel_end c.loose
+
+abbrev pub channels : List Channel → Text
+channels cs = joined (map channel cs)
+
 abbrev pub role_word : Bool → Text
 role_word true = codes "many "
 role_word false = codes "one "
@@ -142,7 +152,55 @@ role_bracket false = codes " {\n"
 
 -- the first line of a role
 abbrev pub role_heading : RoleText → Text
-role_heading r = role_word r.many ++ r.name ++ role_bracket r.nonempty
+role_heading r = role_word r.many ++ r.name ++ role_bracket (r.many && r.nonempty)
+
+-- ---- programs
+
+-- a partner: a member of a set that is in focus by its set's name, and a process by its number in its set
+abbrev pub partner : Who → Text
+partner (who.Name n) = n
+partner (who.At s) = s
+partner (who.Pid p) = p.role ++ codes "[" ++ decimal p.member ++ codes "]"
+
+-- the first line of a statement
+abbrev pub head : Statement → Text
+head (Assign x e) = x ++ codes " := " ++ expression e ++ codes ";"
+head (Send c es u) = codes "send " ++ c ++ codes "(" ++ expressions es ++ codes ") to " ++ partner u ++ codes ";"
+head (Recv c xs u) = codes "recv " ++ c ++ codes "(" ++ names xs ++ codes ") from " ++ partner u ++ codes ";"
+head (RecvAny c xs v s b) = codes "recv " ++ c ++ codes "(" ++ names xs ++ codes ") from any " ++ v ++ codes " in " ++ s ++ codes " {"
+head (If e a) = codes "if " ++ expression e ++ codes " {"
+head (IfElse e a b) = codes "if " ++ expression e ++ codes " {"
+head (While e b) = codes "while " ++ expression e ++ codes " {"
+head (For v s k b) = codes "for " ++ v ++ codes " in " ++ s ++ codes " {"
+head (Repeat s k b) = codes "repeat " ++ s ++ codes " {"
+
+-- statements, each with its first line and what stands below it
+abbrev mutual
+  pub below : Text → Statement → Text
+  below margin (Assign x e) = []
+  below margin (Send c es u) = []
+  below margin (Recv c xs u) = []
+  below margin (RecvAny c xs v s b) = code (deeper margin) b ++ line margin (codes "}")
+  below margin (If e a) = code (deeper margin) a ++ line margin (codes "}")
+  below margin (IfElse e a b) = code (deeper margin) a ++ line margin (codes "} else {") ++ code (deeper margin) b ++ line margin (codes "}")
+  below margin (While e b) = code (deeper margin) b ++ line margin (codes "}")
+  below margin (For v s k b) = code (deeper margin) b ++ line margin (codes "}")
+  below margin (Repeat s k b) = code (deeper margin) b ++ line margin (codes "}")
+
+  pub code : Text → Code → Text
+  code margin done = []
+  code margin (s ⨾ c) = line margin (head s) ++ below margin s ++ code margin c
+
+-- a role with its statements
+abbrev pub role : RoleText → Text
+role r = role_heading r ++ declarations r.decls ++ code (codes "  ") r.code ++ codes "}\n"
+
+abbrev pub roles : List RoleText → Text
+roles rs = joined (map role rs)
+
+-- the layout of a program
+abbrev pub program : Program → Text
+program P = enumerations P.enums ++ channels P.channels ++ roles P.roles
 
 -- ---- sequential programs
 
@@ -168,20 +226,20 @@ item_head (items.Repeat s b) = codes "repeat " ++ s ++ codes " {"
 
 -- items, each with its first line and what stands below it
 abbrev mutual
-  pub below : Text → Item → Text
-  below margin (items.Pass to xs from es) = []
-  below margin (items.Fill n from to es) = []
-  below margin (items.Take to xs n from) = []
-  below margin (items.If p e a b) = body (deeper margin) a ++ line margin (codes "} else {") ++ body (deeper margin) b ++ line margin (codes "}")
-  below margin (items.While p e b) = body (deeper margin) b ++ line margin (codes "}")
-  below margin (items.For s b) = body (deeper margin) b ++ line margin (codes "}")
-  below margin (items.ForAny s b) = body (deeper margin) b ++ line margin (codes "}")
-  below margin (items.Pick s b) = body (deeper margin) b ++ line margin (codes "}")
-  below margin (items.Repeat s b) = body (deeper margin) b ++ line margin (codes "}")
+  pub item_below : Text → Item → Text
+  item_below margin (items.Pass to xs from es) = []
+  item_below margin (items.Fill n from to es) = []
+  item_below margin (items.Take to xs n from) = []
+  item_below margin (items.If p e a b) = body (deeper margin) a ++ line margin (codes "} else {") ++ body (deeper margin) b ++ line margin (codes "}")
+  item_below margin (items.While p e b) = body (deeper margin) b ++ line margin (codes "}")
+  item_below margin (items.For s b) = body (deeper margin) b ++ line margin (codes "}")
+  item_below margin (items.ForAny s b) = body (deeper margin) b ++ line margin (codes "}")
+  item_below margin (items.Pick s b) = body (deeper margin) b ++ line margin (codes "}")
+  item_below margin (items.Repeat s b) = body (deeper margin) b ++ line margin (codes "}")
 
   pub body : Text → Items → Text
   body margin nothing = []
-  body margin (q ⨟ b) = line margin (item_head q) ++ below margin q ++ body margin b
+  body margin (q ⨟ b) = line margin (item_head q) ++ item_below margin q ++ body margin b
 
 -- a role of a sequential program
 abbrev pub declared_role : RoleText → Text

@@ -1,11 +1,11 @@
-//! Enumerations, and roles with their declarations.
+//! Enumerations, channels, and roles with their declarations.
 ghost use Rattle.std.specs.Prelude.{◌≡◌, ◌++◌, OnOk};
 ghost use Rattle.brisk_syntax.specs.Texts.{text_of};
 ghost use Rattle.brisk_print.specs.Layout as layout;
 
 use crate::expressions::put_names;
-use crate::pieces::{Piece, put, put_all, put_number, put_tag, put_truth};
-use brisk_syntax::{Const, Decl, EnumDecl, Role};
+use crate::pieces::{Piece, put, put_all, put_number, put_tag, put_truth, put_with_commas};
+use brisk_syntax::{Channel, Const, Decl, EnumDecl, Role};
 use brisk_values::NoMemory;
 
 fn put_constant(out: &mut Vec<u8>, constant: &Const) -> Result<(), NoMemory>
@@ -76,6 +76,32 @@ impl Piece for EnumDecl {
     }
 }
 
+fn channel_end(loose: bool) -> &'static [u8]
+    ensures { result.now ≡ layout.channel_end loose }
+{
+    if loose { b") loose;\n" } else { b");\n" }
+}
+
+fn put_channel(out: &mut Vec<u8>, channel: &Channel) -> Result<(), NoMemory>
+    ensures { OnOk result (out.new.items ≡ out.old.items ++ layout.channel channel.now) }
+{
+    put(out, b"channel ")?;
+    put(out, channel.name.bytes())?;
+    put(out, b"(")?;
+    put_with_commas(out, &channel.kinds.items)?;
+    put(out, channel_end(channel.loose))
+}
+
+impl Piece for Channel {
+    ghost use Rattle.brisk_print.specs.Layout.{channel};
+
+    ghost text = { channel };
+
+    fn write(&self, out: &mut Vec<u8>) -> Result<(), NoMemory> {
+        put_channel(out, self)
+    }
+}
+
 fn role_word(many: bool) -> &'static [u8]
     ensures { result.now ≡ layout.role_word many }
 {
@@ -94,7 +120,7 @@ pub fn put_role_heading(out: &mut Vec<u8>, role: &Role) -> Result<(), NoMemory>
 {
     put(out, role_word(role.many))?;
     put(out, role.name.bytes())?;
-    put(out, role_bracket(role.nonempty))
+    put(out, role_bracket(role.many && role.nonempty))
 }
 
 // A role without its code.

@@ -1,10 +1,11 @@
 //! Sequential programs.
-ghost use Rattle.std.specs.Prelude.{◌≡◌, ◌++◌, [], codes, IfOk, OnOk};
+ghost use Rattle.std.specs.Prelude.{◌≡◌, ◌++◌, codes, IfOk, OnOk};
 ghost use Rattle.brisk_syntax.specs.Expressions.{expression_of};
 ghost use Rattle.brisk_seq.specs.Seen.{item_of, items_of};
 ghost use Rattle.brisk_print.specs.Layout as layout;
 
 use crate::expressions::{put_expression, put_expressions, put_names};
+use crate::lines::{deeper, put_line};
 use crate::pieces::{put, put_all, put_number};
 use brisk_seq::{Body, Fill, Pass, Seq, SeqProgram, Take};
 use brisk_syntax::{Expr, Exprs, Names, Roles};
@@ -121,22 +122,6 @@ fn put_head(out: &mut Vec<u8>, item: &Seq) -> Result<(), NoMemory>
     }
 }
 
-fn put_line(out: &mut Vec<u8>, margin: &[u8], text: &[u8]) -> Result<(), NoMemory>
-    ensures { OnOk result (out.new.items ≡ out.old.items ++ layout.line margin.now text.now) }
-{
-    put(out, margin)?;
-    put(out, text)?;
-    put(out, b"\n")
-}
-
-fn deeper(alloc: Global, margin: &[u8]) -> Result<Vec<u8>, NoMemory>
-    ensures { IfOk result (λ v. v.items ≡ layout.deeper margin.now) }
-{
-    let mut inner = Vec::from_slice(alloc, margin)?;
-    put(&mut inner, b"  ")?;
-    Ok(inner)
-}
-
 // A body one level deeper, and its closing bracket.
 #[cycle(body)]
 fn put_inner(
@@ -156,7 +141,7 @@ fn put_inner(
 // What stands below the first line of an item.
 #[cycle(body)]
 fn put_below(alloc: Global, out: &mut Vec<u8>, margin: &[u8], item: &Seq) -> Result<(), NoMemory>
-    ensures { OnOk result (out.new.items ≡ out.old.items ++ layout.below margin.now (item_of item.now)) }
+    ensures { OnOk result (out.new.items ≡ out.old.items ++ layout.item_below margin.now (item_of item.now)) }
 {
     match item {
         Seq::Pass(_) | Seq::Fill(_) | Seq::Take(_) => Ok(()),

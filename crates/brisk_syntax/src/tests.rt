@@ -1,4 +1,6 @@
 //! Codes made, changed and compared.
+ghost use Rattle.std.specs.Prelude.{◌<◌, ◌≤◌, length};
+
 use crate::{
     Block, Code, Expr, Exprs, Loop, Names, Stmt, Who, code_from, copy_code, copy_expr, copy_exprs,
     copy_names, same_code, same_expr, subst,
@@ -8,7 +10,10 @@ use std::alloc::Global;
 use std::rc::Rc;
 use std::test::Fail;
 
-fn named(bytes: &[u8]) -> Name {
+fn named(bytes: &[u8]) -> Name
+    requires some { 0 < length bytes.now }
+    requires few { length bytes.now ≤ 64 }
+{
     Name::new(bytes).unwrap()
 }
 

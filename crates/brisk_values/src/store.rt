@@ -68,18 +68,26 @@ mod tests {
     use super::*;
     use std::test::Fail;
 
+    fn process() -> Pid {
+        Pid {
+            role: Name::new(b"Ws").unwrap(),
+            member: 3,
+        }
+    }
+
+    fn variable() -> Name {
+        Name::new(b"x").unwrap()
+    }
+
     #[test]
     fn a_copy_keeps_its_values(rt: HostRuntime) -> Result<(), Fail> {
-        let role = Name::new(b"Ws").unwrap();
-        let x = Name::new(b"x").unwrap();
-        let process = Pid { role, member: 3 };
         let mut store = Store::new(rt.alloc());
-        store.set(process, x, Value::Int(7))?;
+        store.set(process(), variable(), Value::Int(7))?;
         let copy = store.copy()?;
-        store.set(process, x, Value::Bool(true))?;
-        assert_eq!(rt; copy.get(process, x), Some(Value::Int(7)));
-        assert_eq!(rt; store.get(process, x), Some(Value::Bool(true)));
-        assert_eq!(rt; copy.get(process, role), None);
+        store.set(process(), variable(), Value::Bool(true))?;
+        assert_eq!(rt; copy.get(process(), variable()), Some(Value::Int(7)));
+        assert_eq!(rt; store.get(process(), variable()), Some(Value::Bool(true)));
+        assert_eq!(rt; copy.get(process(), process().role), None);
         Ok(())
     }
 }

@@ -1,4 +1,4 @@
-use Rattle.std.proofs.Common.{◌≡◌, ◌∙◌, arith, ◌++◌, take}
+use Rattle.std.proofs.Common.{◌∙◌, arith}
 use Rattle.brisk_cli.proofs.Pieces.{at_end, one_piece_more, too_long}
 use Rattle.brisk_cli.proofs.files.read_file.Goals as goal
 

@@ -1,4 +1,4 @@
-use Rattle.std.proofs.Common.{◌≡◌, ℕ, ◌-◌, ◌≤◌, List, Some, length, take, IfSome}
+use Rattle.std.proofs.Common.{◌≡◌, ◌-◌, ◌≤◌, length}
 use Rattle.brisk_cli.proofs.Pieces.{IsFront}
 use Rattle.brisk_cli.proofs.files.read_file.Given as goal
 

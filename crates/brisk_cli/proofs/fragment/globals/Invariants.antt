@@ -1,6 +1,5 @@
 use Rattle.std.proofs.Common.{◌≡◌, ◌++◌, take, map}
 use Rattle.brisk_syntax.specs.Texts.{text_of}
-use Rattle.brisk_cli.specs.Fragment as spec
 use Rattle.brisk_cli.proofs.fragment.globals.Given as goal
 
 abbrev pub invariant-loop-channel : goal.invariant-loop-channel

@@ -1,4 +1,3 @@
-use Rattle.std.proofs.Common.{arith}
 use Rattle.brisk_cli.proofs.Heads.{name_at_is}
 use Rattle.brisk_cli.proofs.rewriting.name_at.Goals as goal
 

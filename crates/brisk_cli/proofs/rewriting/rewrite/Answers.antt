@@ -1,4 +1,4 @@
-use Rattle.std.proofs.Common.{◌≡◌, length, map, replicate, rules, sym, ap, ◌∙◌}
+use Rattle.std.proofs.Common.{◌≡◌, length, map, replicate, rules, ap, ◌∙◌}
 use Rattle.std.proofs.lemmas.List.{length-map}
 use Rattle.brisk_syntax.specs.Texts.{text_of}
 use Rattle.brisk_cli.proofs.Progress.{starts}

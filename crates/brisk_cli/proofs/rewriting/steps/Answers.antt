@@ -2,7 +2,7 @@ use Rattle.std.proofs.Common.{◌≡◌, Some, map, length, ◌∙◌}
 use Rattle.std.proofs.lemmas.List.{length-map}
 use Rattle.brisk_syntax.specs.Texts.{text_of}
 use Rattle.brisk_seq.specs.Seen.{item_of, items_of}
-use Rattle.brisk_cli.specs.Rewriting.{Advances, Leads, stays, goes_on}
+use Rattle.brisk_cli.specs.Rewriting.{Advances, stays, goes_on}
 use Rattle.brisk_cli.proofs.Progress.{step_less, items_of-append}
 use Rattle.brisk_cli.proofs.rewriting.steps.Goals as goal
 

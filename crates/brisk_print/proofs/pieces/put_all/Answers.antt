@@ -1,4 +1,4 @@
-use Rattle.std.proofs.Common.{◌≡◌, ◌++◌, ap, ◌∙◌}
+use Rattle.std.proofs.Common.{◌++◌, ap, ◌∙◌}
 use Rattle.brisk_print.proofs.Written.{joined_more, joined_all}
 use Rattle.brisk_print.proofs.pieces.put_all.Goals as goal
 

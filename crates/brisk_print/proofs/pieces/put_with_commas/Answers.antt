@@ -1,5 +1,4 @@
-use Rattle.std.proofs.Common.{◌≡◌, ◌∷◌, ◌++◌, rules, arith, sym, ap, ◌∙◌}
-use Rattle.std.specs.Prelude.{codes}
+use Rattle.std.proofs.Common.{◌≡◌, ◌∷◌, ◌++◌, rules, ◌∙◌}
 use Rattle.brisk_print.proofs.Written.{piece_more, pieces_all}
 use Rattle.brisk_print.proofs.pieces.put_with_commas.Goals as goal
 

@@ -1,6 +1,8 @@
-//! When a sequential program does what processes do.
+//! When a sequential program does what processes do, and the rules by which it is derived.
 #![tactic(auto)]
 
 mod small_programs;
+mod why;
 
-pub use small_programs::examples;
+pub use small_programs::{derivations, examples};
+pub use why::Why;

@@ -130,36 +130,36 @@ module _ {A : Type 0} (spelling : A → List Token) (used : A → ℕ) (Good : A
   unfolding others
   others_found zero i =
       found_if _ (sees (t.Mark m.Comma) i) _ _
-        (λ _. found_if _ (begins (head (after i))) _ _ (λ _. found_err _ _) (λ _. found_err _ _))
-        (λ _. found_ok _ [] i (record { spelled = refl; room = refl; statements = omega arith; good = (tt, omega arith) }))
+      (λ _. found_if _ (begins (head (after i))) _ _ (λ _. found_err _ _) (λ _. found_err _ _))
+      (λ _. found_ok _ [] i (record { spelled = refl; room = refl; statements = omega arith; good = (tt, omega arith) }))
   others_found (suc n) i =
       found_if _ (sees (t.Mark m.Comma) i) _ _
-        (λ h. found_then _ _ (one (after i)) _ (one_found (after i)) (λ x j a. found_then _ _ (others begins one n j) _ (others_found n j) (λ xs k b.
-          found_ok _ (x ∷ xs) k (record {
-            spelled = sees_is (t.Mark m.Comma) i.rest h ∙ ap (λ l. t.Mark m.Comma ∷ l) (a.spelled ∙ ap (λ l. spelling x ++ l) b.spelled ∙ sym (append_assoc (spelling x) (spell.behind_commas spelling xs) k.rest));
-            room = b.room ∙ a.room;
-            statements = omega (arith, a.statements, b.statements, sum_by-cons used x xs);
-            good = ((a.good, b.good.0), omega (arith, b.good.1));
-          }))))
-        (λ _. found_ok _ [] i (record { spelled = refl; room = refl; statements = omega arith; good = (tt, omega arith) }))
+      (λ h. found_then _ _ (one (after i)) _ (one_found (after i)) (λ x j a. found_then _ _ (others begins one n j) _ (others_found n j) (λ xs k b.
+      found_ok _ (x ∷ xs) k (record {
+        spelled = sees_is (t.Mark m.Comma) i.rest h ∙ ap (λ l. t.Mark m.Comma ∷ l) (a.spelled ∙ ap (λ l. spelling x ++ l) b.spelled ∙ sym (append_assoc (spelling x) (spell.behind_commas spelling xs) k.rest));
+        room = b.room ∙ a.room;
+        statements = omega (arith, a.statements, b.statements, sum_by-cons used x xs);
+        good = ((a.good, b.good.0), omega (arith, b.good.1));
+      }))))
+      (λ _. found_ok _ [] i (record { spelled = refl; room = refl; statements = omega arith; good = (tt, omega arith) }))
 
   pub separated_found : (n : ℕ) (i : Input) → Found (separated begins one n i) (Spelled (spell.separated spelling) (sum_by used) (λ xs. Upto (1 + n) xs × (xs ≡ [] → ⊥)) i)
   unfolding separated
   separated_found n i =
       found_then _ _ (one i) _ (one_found i) (λ x j a. found_then _ _ (others begins one n j) _ (others_found n j) (λ xs k b.
-        found_ok _ (x ∷ xs) k (record {
-          spelled = a.spelled ∙ ap (λ l. spelling x ++ l) b.spelled ∙ sym (append_assoc (spelling x) (spell.behind_commas spelling xs) k.rest);
-          room = b.room ∙ a.room;
-          statements = omega (arith, a.statements, b.statements, sum_by-cons used x xs);
-          good = (((a.good, b.good.0), omega (arith, b.good.1)), λ e. cc);
-        })))
+      found_ok _ (x ∷ xs) k (record {
+        spelled = a.spelled ∙ ap (λ l. spelling x ++ l) b.spelled ∙ sym (append_assoc (spelling x) (spell.behind_commas spelling xs) k.rest);
+        room = b.room ∙ a.room;
+        statements = omega (arith, a.statements, b.statements, sum_by-cons used x xs);
+        good = (((a.good, b.good.0), omega (arith, b.good.1)), λ e. cc);
+      })))
 
   pub listed_found : (n : ℕ) (i : Input) → Found (listed begins one n i) (Spelled (spell.separated spelling) (sum_by used) (Upto (1 + n)) i)
   unfolding listed
   listed_found n i =
       found_if _ (begins (head i)) _ _
-        (λ _. found_so _ _ (separated begins one n i) (λ x j a. record { spelled = a.spelled; room = a.room; statements = a.statements; good = a.good.0 }) (separated_found n i))
-        (λ _. found_ok _ [] i (record { spelled = refl; room = refl; statements = omega arith; good = (tt, omega arith) }))
+      (λ _. found_so _ _ (separated begins one n i) (λ x j a. record { spelled = a.spelled; room = a.room; statements = a.statements; good = a.good.0 }) (separated_found n i))
+      (λ _. found_ok _ [] i (record { spelled = refl; room = refl; statements = omega arith; good = (tt, omega arith) }))
 
   -- what items are put together to
   pub record Joins {B : Type 0} (end : B) (joint : A → B → B) (spelling_all : B → List Token) (used_all : B → ℕ) (Good_all : ℕ → B → Type 0) : Type 0 where
@@ -179,14 +179,14 @@ module _ {A : Type 0} (spelling : A → List Token) (used : A → ℕ) (Good : A
     many_found zero i = found_if _ (begins (head i)) _ _ (λ _. found_err _ _) (λ _. found_ok _ end i (none_found zero i))
     many_found (suc n) i =
         found_if _ (begins (head i)) _ _
-          (λ _. found_then _ _ (one i) _ (one_found i) (λ x j a. found_then _ _ (many begins one end joint n j) _ (many_found n j) (λ y k b.
-            found_ok _ (joint x y) k (record {
-              spelled = a.spelled ∙ ap (λ l. spelling x ++ l) b.spelled ∙ sym (append_assoc (spelling x) (spelling_all y) k.rest) ∙ ap (λ l. l ++ k.rest) (sym (joins.spelled_joint x y));
-              room = b.room ∙ a.room;
-              statements = omega (arith, a.statements, b.statements, joins.used_joint x y);
-              good = joins.good_joint n x y a.good b.good;
-            }))))
-          (λ _. found_ok _ end i (none_found (suc n) i))
+        (λ _. found_then _ _ (one i) _ (one_found i) (λ x j a. found_then _ _ (many begins one end joint n j) _ (many_found n j) (λ y k b.
+        found_ok _ (joint x y) k (record {
+          spelled = a.spelled ∙ ap (λ l. spelling x ++ l) b.spelled ∙ sym (append_assoc (spelling x) (spelling_all y) k.rest) ∙ ap (λ l. l ++ k.rest) (sym (joins.spelled_joint x y));
+          room = b.room ∙ a.room;
+          statements = omega (arith, a.statements, b.statements, joins.used_joint x y);
+          good = joins.good_joint n x y a.good b.good;
+        }))))
+        (λ _. found_ok _ end i (none_found (suc n) i))
 
   pub list_found : (n : ℕ) (i : Input) → Found (list_of begins one n i) (Spelled (spell.all_of spelling) (sum_by used) (Upto n) i)
   list_found n i =

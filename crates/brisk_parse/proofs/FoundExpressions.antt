@@ -103,10 +103,10 @@ unfolding tail
 tail_found l next one zero e start i so_far = found_operator _ (operator l (head i)) (λ op. pass_limit) e i (λ _. so_far) (λ op _. found_err _ _)
 tail_found l next one (suc n) e start i so_far =
     found_operator _ (operator l (head i)) _ e i (λ _. so_far) (λ op h.
-      let o = operator_found l i.rest op h in
-      found_then _ _ (spend i) _ (spent i (t.Mark (spell.operator2 op)) o.spelled) (λ _ j s.
-      found_then _ _ (next j) _ (one j) (λ f k b.
-      tail_found l next one n (Bin op e f) start k (joined (number l) (number l) start i j k e f op so_far o s b))))
+    let o = operator_found l i.rest op h in
+    found_then _ _ (spend i) _ (spent i (t.Mark (spell.operator2 op)) o.spelled) (λ _ j s.
+    found_then _ _ (next j) _ (one j) (λ f k b.
+    tail_found l next one n (Bin op e f) start k (joined (number l) (number l) start i j k e f op so_far o s b))))
 
 weaken : (a b : ℕ) (i : Input) (e : Expression) (j : Input) → b ≤ a → IsExpression a i e j → IsExpression b i e j
 weaken a b i e j le s = record { spends = s.spends; levelled = s.levelled; least = omega (arith, le, s.least) }
@@ -121,10 +121,10 @@ unfolding comparison compared
 compared_found n unary one i =
     found_then _ _ (sum n unary i) _ (one i) (λ e j a.
     found_operator _ (comparison_operator (head j)) _ e j (λ _. weaken 3 2 i e j (omega arith) a) (λ op h.
-      let o = comparison_found j.rest op h in
-      found_then _ _ (spend j) _ (spent j (t.Mark (spell.operator2 op)) o.spelled) (λ _ k s.
-      found_then _ _ (sum n unary k) _ (one k) (λ f l b.
-      found_ok _ (Bin op e f) l (joined 2 3 i j k l e f op a o s b)))))
+    let o = comparison_found j.rest op h in
+    found_then _ _ (spend j) _ (spent j (t.Mark (spell.operator2 op)) o.spelled) (λ _ k s.
+    found_then _ _ (sum n unary k) _ (one k) (λ f l b.
+    found_ok _ (Bin op e f) l (joined 2 3 i j k l e f op a o s b)))))
 
 disjunction_found : (n : ℕ) (unary : Parser Expression) → Gives 5 unary → Gives 0 (disjunction n unary)
 disjunction_found n unary one =
@@ -136,10 +136,10 @@ tag_found : (x : _) (i j : Input) → Spends i (spell.name x) j → Found (varia
 unfolding variable_or_tag
 tag_found x i j a =
     found_if _ (sees (t.Mark m.Dot) j) _ _
-      (λ h. found_then _ _ (spend j) _ (spent j (t.Mark m.Dot) (sees_is (t.Mark m.Dot) j.rest h)) (λ _ k b.
-        found_then _ _ (take_name k) _ (take_name_at k.rest k.room k.statements) (λ y l c.
-        found_ok _ (Tag x y) l (record { spends = spends_then i k l (spell.name x ++ spell.mark m.Dot) (spell.name y) (spends_then i j k (spell.name x) (spell.mark m.Dot) a b) c; levelled = tt; least = omega arith }))))
-      (λ _. found_ok _ (Var x) j (record { spends = a; levelled = tt; least = omega arith }))
+    (λ h. found_then _ _ (spend j) _ (spent j (t.Mark m.Dot) (sees_is (t.Mark m.Dot) j.rest h)) (λ _ k b.
+    found_then _ _ (take_name k) _ (take_name_at k.rest k.room k.statements) (λ y l c.
+    found_ok _ (Tag x y) l (record { spends = spends_then i k l (spell.name x ++ spell.mark m.Dot) (spell.name y) (spends_then i j k (spell.name x) (spell.mark m.Dot) a b) c; levelled = tt; least = omega arith }))))
+    (λ _. found_ok _ (Var x) j (record { spends = a; levelled = tt; least = omega arith }))
 
 unary_at : (n : ℕ) (rest : List Token) (r c : ℕ) → Found (unary n (at rest r c)) (IsExpression 5 (at rest r c))
 unfolding unary
@@ -184,5 +184,5 @@ pub expression_found : (n : ℕ) (i : Input) → Found (expression n i) (Plain s
 unfolding expression
 expression_found n i =
     found_restored i.room (disjunction n (unary n) (with_room n i)) (IsExpression 0 (with_room n i)) _
-      (λ e j a. record { spelled = a.spends.spelled; room = refl; statements = omega (arith, a.spends.statements); good = (a.levelled, omega (arith, a.spends.room)) })
-      (disjunction_found n (unary n) (λ i. unary_at n i.rest i.room i.statements) (with_room n i))
+    (λ e j a. record { spelled = a.spends.spelled; room = refl; statements = omega (arith, a.spends.statements); good = (a.levelled, omega (arith, a.spends.room)) })
+    (disjunction_found n (unary n) (λ i. unary_at n i.rest i.room i.statements) (with_room n i))

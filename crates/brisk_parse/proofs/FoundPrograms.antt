@@ -107,8 +107,8 @@ flag_found : (k : Word) (i : Input) → Found (flag (t.Word k) i) (Plain (spell.
 unfolding flag
 flag_found k i =
     found_if _ (sees (t.Word k) i) _ _
-      (λ h. found_after _ (t.Word k) i (λ j. Ok (true, j)) h (λ j a. found_ok _ true j (record { spelled = a.spelled; room = a.room; statements = a.statements; good = tt })))
-      (λ _. found_ok _ false i (record { spelled = refl; room = refl; statements = omega arith; good = tt }))
+    (λ h. found_after _ (t.Word k) i (λ j. Ok (true, j)) h (λ j a. found_ok _ true j (record { spelled = a.spelled; room = a.room; statements = a.statements; good = tt })))
+    (λ _. found_ok _ false i (record { spelled = refl; room = refl; statements = omega arith; good = tt }))
 
 module _ (l : Limits) where
   abbrev EnumFits : EnumDecl → Type 0

@@ -123,26 +123,26 @@ module _ (l : Limits) (d : ℕ) where
         found_then _ _ (expect (t.Mark m.RParen) j3) _ (expect_found (t.Mark m.RParen) j3) (λ _ j4 a4.
         found_then _ _ (expect (t.Word w.KwFrom) j4) _ (expect_found (t.Word w.KwFrom) j4) (λ _ j5 a5.
         found_if _ (sees (t.Word w.KwAny) j5) _ _
-          (λ h. found_after _ (t.Word w.KwAny) j5 (receive_any body c xs) h (λ j6 a6.
-            found_then _ _ (name j6) _ (name_found j6) (λ v j7 a7.
-            found_then _ _ (expect (t.Word w.KwIn) j7) _ (expect_found (t.Word w.KwIn) j7) (λ _ j8 a8.
-            found_then _ _ (name j8) _ (name_found j8) (λ s j9 a9.
-            found_then _ _ (body j9) _ (block_found j9) (λ b j10 a10.
-            found_ok _ (RecvAny c xs v s b) j10 (record {
-              spelled = simp (a1.spelled, a2.spelled, a3.spelled, a4.spelled, a5.spelled, a6.spelled, a7.spelled, a8.spelled, a9.spelled, a10.spelled) (ap (λ l. t.Word w.KwRecv ∷ t.Name c ∷ t.Mark m.LParen ∷ l) (from_any (spell.names xs) (braced b) j10.rest v s));
-              room = a10.room ∙ a9.room ∙ a8.room ∙ a7.room ∙ a6.room ∙ a5.room ∙ a4.room ∙ a3.room ∙ a2.room ∙ a1.room;
-              statements = omega (arith, a1.statements, a2.statements, a3.statements, a4.statements, a5.statements, a6.statements, a7.statements, a8.statements, a9.statements, a10.statements);
-              good = record { levelled = a10.good.levelled; within = (a3.good, a10.good.within); depth = a10.good.depth };
-            })))))))
-          (λ _.
-            found_then _ _ (name j5) _ (name_found j5) (λ u j6 a6.
-            found_then _ _ (expect (t.Mark m.Semi) j6) _ (expect_found (t.Mark m.Semi) j6) (λ _ j7 a7.
-            found_ok _ (Recv c xs (who.Name u)) j7 (record {
-              spelled = simp (a1.spelled, a2.spelled, a3.spelled, a4.spelled, a5.spelled, a6.spelled, a7.spelled, append_assoc) refl;
-              room = a7.room ∙ a6.room ∙ a5.room ∙ a4.room ∙ a3.room ∙ a2.room ∙ a1.room;
-              statements = omega (arith, a1.statements, a2.statements, a3.statements, a4.statements, a5.statements, a6.statements, a7.statements);
-              good = record { levelled = tt; within = a3.good; depth = omega arith };
-            }))))))))) 
+        (λ h. found_after _ (t.Word w.KwAny) j5 (receive_any body c xs) h (λ j6 a6.
+        found_then _ _ (name j6) _ (name_found j6) (λ v j7 a7.
+        found_then _ _ (expect (t.Word w.KwIn) j7) _ (expect_found (t.Word w.KwIn) j7) (λ _ j8 a8.
+        found_then _ _ (name j8) _ (name_found j8) (λ s j9 a9.
+        found_then _ _ (body j9) _ (block_found j9) (λ b j10 a10.
+        found_ok _ (RecvAny c xs v s b) j10 (record {
+          spelled = simp (a1.spelled, a2.spelled, a3.spelled, a4.spelled, a5.spelled, a6.spelled, a7.spelled, a8.spelled, a9.spelled, a10.spelled) (ap (λ l. t.Word w.KwRecv ∷ t.Name c ∷ t.Mark m.LParen ∷ l) (from_any (spell.names xs) (braced b) j10.rest v s));
+          room = a10.room ∙ a9.room ∙ a8.room ∙ a7.room ∙ a6.room ∙ a5.room ∙ a4.room ∙ a3.room ∙ a2.room ∙ a1.room;
+          statements = omega (arith, a1.statements, a2.statements, a3.statements, a4.statements, a5.statements, a6.statements, a7.statements, a8.statements, a9.statements, a10.statements);
+          good = record { levelled = a10.good.levelled; within = (a3.good, a10.good.within); depth = a10.good.depth };
+        })))))))
+        (λ _.
+        found_then _ _ (name j5) _ (name_found j5) (λ u j6 a6.
+        found_then _ _ (expect (t.Mark m.Semi) j6) _ (expect_found (t.Mark m.Semi) j6) (λ _ j7 a7.
+        found_ok _ (Recv c xs (who.Name u)) j7 (record {
+          spelled = simp (a1.spelled, a2.spelled, a3.spelled, a4.spelled, a5.spelled, a6.spelled, a7.spelled, append_assoc) refl;
+          room = a7.room ∙ a6.room ∙ a5.room ∙ a4.room ∙ a3.room ∙ a2.room ∙ a1.room;
+          statements = omega (arith, a1.statements, a2.statements, a3.statements, a4.statements, a5.statements, a6.statements, a7.statements);
+          good = record { levelled = tt; within = a3.good; depth = omega arith };
+        })))))))))
 
     choice_found : (i : Input) → Found (choice l body i) (IsStatement l d (t.Word w.KwIf) i)
     unfolding choice otherwise
@@ -150,20 +150,20 @@ module _ (l : Limits) (d : ℕ) where
         found_then _ _ (expression l.tokens i) _ (expression_found l.tokens i) (λ e j1 a1.
         found_then _ _ (body j1) _ (block_found j1) (λ a j2 a2.
         found_if _ (sees (t.Word w.KwElse) j2) _ _
-          (λ h. found_after _ (t.Word w.KwElse) j2 (λ i. and_then (body i) (λ b i. Ok (IfElse e a b, i))) h (λ j3 a3.
-            found_then _ _ (body j3) _ (block_found j3) (λ b j4 a4.
-            found_ok _ (IfElse e a b) j4 (record {
-              spelled = simp (a1.spelled, a2.spelled, a3.spelled, a4.spelled, append_assoc (spell.expression e ++ braced a ++ spell.word w.KwElse) (braced b) j4.rest, append_assoc (spell.expression e ++ braced a) (spell.word w.KwElse) (braced b ++ j4.rest), append_assoc (spell.expression e) (braced a) (spell.word w.KwElse ++ (braced b ++ j4.rest))) refl;
-              room = a4.room ∙ a3.room ∙ a2.room ∙ a1.room;
-              statements = omega (arith, a1.statements, a2.statements, a3.statements, a4.statements);
-              good = record { levelled = (a1.good.0, a2.good.levelled, a4.good.levelled); within = (a1.good.1, a2.good.within, a4.good.within); depth = omega (arith, a2.good.depth, a4.good.depth) };
-            }))))
-          (λ _. found_ok _ (If e a) j2 (record {
-            spelled = simp (a1.spelled, a2.spelled, append_assoc (spell.expression e) (braced a) j2.rest) refl;
-            room = a2.room ∙ a1.room;
-            statements = omega (arith, a1.statements, a2.statements);
-            good = record { levelled = (a1.good.0, a2.good.levelled); within = (a1.good.1, a2.good.within); depth = a2.good.depth };
-          }))))
+        (λ h. found_after _ (t.Word w.KwElse) j2 (λ i. and_then (body i) (λ b i. Ok (IfElse e a b, i))) h (λ j3 a3.
+        found_then _ _ (body j3) _ (block_found j3) (λ b j4 a4.
+        found_ok _ (IfElse e a b) j4 (record {
+          spelled = simp (a1.spelled, a2.spelled, a3.spelled, a4.spelled, append_assoc (spell.expression e ++ braced a ++ spell.word w.KwElse) (braced b) j4.rest, append_assoc (spell.expression e ++ braced a) (spell.word w.KwElse) (braced b ++ j4.rest), append_assoc (spell.expression e) (braced a) (spell.word w.KwElse ++ (braced b ++ j4.rest))) refl;
+          room = a4.room ∙ a3.room ∙ a2.room ∙ a1.room;
+          statements = omega (arith, a1.statements, a2.statements, a3.statements, a4.statements);
+          good = record { levelled = (a1.good.0, a2.good.levelled, a4.good.levelled); within = (a1.good.1, a2.good.within, a4.good.within); depth = omega (arith, a2.good.depth, a4.good.depth) };
+        }))))
+        (λ _. found_ok _ (If e a) j2 (record {
+          spelled = simp (a1.spelled, a2.spelled, append_assoc (spell.expression e) (braced a) j2.rest) refl;
+          room = a2.room ∙ a1.room;
+          statements = omega (arith, a1.statements, a2.statements);
+          good = record { levelled = (a1.good.0, a2.good.levelled); within = (a1.good.1, a2.good.within); depth = a2.good.depth };
+        }))))
 
     while_found : (i : Input) → Found (while_loop l body i) (IsStatement l d (t.Word w.KwWhile) i)
     unfolding while_loop
@@ -219,14 +219,14 @@ module _ (l : Limits) (d : ℕ) where
     statement_at [] r n = found_err _ _
     statement_at (k ∷ rest) r n =
         found_if _ (begins_statement (Some k)) _ _
-          (λ _. found_then _ _ (count (at (k ∷ rest) r n)) _ (count_found (at (k ∷ rest) r n)) (λ _ j a.
-            found_so _ _ (statement_by l body (Some k) (after j)) (λ s j2 b. record {
-              spelled = ap (λ l. k ∷ drop 1 l) (sym a.0) ∙ b.spelled;
-              room = b.room ∙ a.1;
-              statements = a.2 ∙ b.statements;
-              good = b.good;
-            }) (by_found k (after j))))
-          (λ _. found_err _ _)
+        (λ _. found_then _ _ (count (at (k ∷ rest) r n)) _ (count_found (at (k ∷ rest) r n)) (λ _ j a.
+        found_so _ _ (statement_by l body (Some k) (after j)) (λ s j2 b. record {
+          spelled = ap (λ l. k ∷ drop 1 l) (sym a.0) ∙ b.spelled;
+          room = b.room ∙ a.1;
+          statements = a.2 ∙ b.statements;
+          good = b.good;
+        }) (by_found k (after j))))
+        (λ _. found_err _ _)
 
     pub statement_found : (i : Input) → Found (statement l body i) (Spelled spell.statement counts.statements_in (Fits l d) i)
     statement_found i = statement_at i.rest i.room i.statements

@@ -194,9 +194,9 @@ module _ (n : ℕ) where
         left = so_far.left - 1;
         enough = omega (arith, so_far.enough, size_two op e f, le);
         runs = λ k s r c len free.
-          ap (λ z. and_then (operand l n (unary n) (at z s c)) (λ e. tail l (operand l n (unary n)) n e)) (split_two op e f k)
-          ∙ so_far.runs (t.Mark (spell.operator2 op) ∷ (spell.expression f ++ k)) s (1 + (size f + r)) c (omega (arith, len, size_two op e f)) (omega (arith, binding_of op, h))
-          ∙ tail_on l (operand l n (unary n)) so_far.left op e f k (spell.expression f ++ k) (size f + r) r c (omega (arith, so_far.enough, size_two op e f, le)) h (next k (size f + r) r c refl (omega (arith, free)));
+            ap (λ z. and_then (operand l n (unary n) (at z s c)) (λ e. tail l (operand l n (unary n)) n e)) (split_two op e f k)
+            ∙ so_far.runs (t.Mark (spell.operator2 op) ∷ (spell.expression f ++ k)) s (1 + (size f + r)) c (omega (arith, len, size_two op e f)) (omega (arith, binding_of op, h))
+            ∙ tail_on l (operand l n (unary n)) so_far.left op e f k (spell.expression f ++ k) (size f + r) r c (omega (arith, so_far.enough, size_two op e f, le)) h (next k (size f + r) r c refl (omega (arith, free)));
       }
 
   joined_compared : (op : Op2) (e f : Expression) → left_level op ≤ level e → operator_level op + 1 ≤ level f → IsRead e → IsRead f → operator_level op ≡ 2 → Gives 2 (comparison n (unary n)) (Bin op e f)
@@ -234,7 +234,7 @@ reads (suc n) (Paren e) le l =
     let size_is : size (Paren e) ≡ 2 + size e = omega (arith, length-append (spell.expression e) (spell.mark m.RParen)) in
     let inner = reads n e (omega (arith, le, size_is)) l in
     simple (suc n) (Paren e) refl (λ k s r c len free.
-      rw (append_assoc (spell.expression e) (spell.mark m.RParen) k, spend_only (t.Mark m.LParen) (spell.expression e ++ (t.Mark m.RParen ∷ k)) s (size e + (1 + r)) c (omega (arith, len, size_is)), inner.chained level.Or (omega arith) (t.Mark m.RParen ∷ k) (size e + (1 + r)) (1 + r) c refl (omega arith), spend_only (t.Mark m.RParen) k (1 + r) r c refl) refl)
+    rw (append_assoc (spell.expression e) (spell.mark m.RParen) k, spend_only (t.Mark m.LParen) (spell.expression e ++ (t.Mark m.RParen ∷ k)) s (size e + (1 + r)) c (omega (arith, len, size_is)), inner.chained level.Or (omega arith) (t.Mark m.RParen ∷ k) (size e + (1 + r)) (1 + r) c refl (omega arith), spend_only (t.Mark m.RParen) k (1 + r) r c refl) refl)
 reads (suc n) (Un op1.Neg e) le l =
     let inner = reads n e (omega (arith, le)) l.0 in
     simple (suc n) (Un op1.Neg e) refl (λ k s r c len free. rw (spend_only (t.Mark m.Minus) (spell.expression e ++ k) s (size e + r) c (omega (arith, len)), inner.alone l.1 k (size e + r) r c refl free) refl)

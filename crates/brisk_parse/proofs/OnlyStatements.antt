@@ -61,8 +61,8 @@ names_only l xs k r n le =
 expressions_only : (l : Limits) (es : List Expression) (k : List Token) (r n : ℕ) → length es ≤ 1 + l.places → AllByRecursion (Short l.tokens) es → expressions l (at (spell.expressions es ++ (t.Mark m.RParen ∷ k)) r n) ≡ Ok (es, at (t.Mark m.RParen ∷ k) r n)
 expressions_only l es k r n le good =
     listed_only spell.expression (λ _. 0) (Short l.tokens) (λ k. binding (first k) ≡ 0) begins_expression (expression l.tokens)
-      (λ e k r a b good free h. let same : a ≡ b = omega (arith, h) in rw same (expression_only l.tokens e k r b good.0 good.1 free))
-      expression_begins (λ k. refl) l.places es (t.Mark m.RParen ∷ k) r n n le good refl refl refl (omega (arith, none_used es))
+    (λ e k r a b good free h. let same : a ≡ b = omega (arith, h) in rw same (expression_only l.tokens e k r b good.0 good.1 free))
+    expression_begins (λ k. refl) l.places es (t.Mark m.RParen ∷ k) r n n le good refl refl refl (omega (arith, none_used es))
 
 -- ---- what follows
 
@@ -142,6 +142,7 @@ module _ (l : Limits) where
 
   mutual
     unfolding statement assign send receive receive_any receive_named choice otherwise while_loop for_loop repeat_loop expect name
+
     statement_only : (d : ℕ) (s : Statement) (k : List Token) (r a b : ℕ) → Ready d s → NoElse k → a ≡ counts.statements_in s + b → statement l (block l d) (at (spell.statement s ++ k) r a) ≡ Ok (s, at k r b)
     statement_only d (Assign x e) k r a b ok h n =
         rw (count_only (spell.statement (Assign x e) ++ k) r a b n, append_assoc (spell.expression e) (spell.mark m.Semi) k, expression_only l.tokens e (t.Mark m.Semi ∷ k) r b ok.levelled ok.within refl) refl
@@ -187,5 +188,5 @@ module _ (l : Limits) where
         let rest = spell.code c ++ k in
         let ready : Ready d s = record { levelled = levelled.0; within = within.0; depth = omega (arith, depth); count = omega (arith, most) } in
         code_from (statement l (block l d)) n s c k r a (counts.statements c + b) b
-          (statement_only d s rest r a (counts.statements c + b) ready (code_first (is_token (t.Word w.KwElse)) not_else c k h) (omega (arith, e)))
-          (code_only d n c k r (counts.statements c + b) b (omega (arith, le, counted s)) (omega (arith, most)) levelled.1 within.1 (omega (arith, depth)) g h refl)
+        (statement_only d s rest r a (counts.statements c + b) ready (code_first (is_token (t.Word w.KwElse)) not_else c k h) (omega (arith, e)))
+        (code_only d n c k r (counts.statements c + b) b (omega (arith, le, counted s)) (omega (arith, most)) levelled.1 within.1 (omega (arith, depth)) g h refl)

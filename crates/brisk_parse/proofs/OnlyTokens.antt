@@ -26,9 +26,8 @@ count_only rest r a b h = let e : a - 1 ≡ b = omega (arith, h) in rw (not_zero
 -- ---- lists
 
 module _ {A : Type 0} (spelling : A → List Token) (used : A → ℕ) (Good : A → Type 0) (Follow : List Token → Type 0) (begins : Option Token → Bool) (one : Parser A)
-  (one_only : (x : A) (k : List Token) (r a b : ℕ) → Good x → Follow k → a ≡ used x + b → one (at (spelling x ++ k) r a) ≡ Ok (x, at k r b))
-  (one_begins : (x : A) (k : List Token) → begins (first (spelling x ++ k)) ≡ true) where
-
+    (one_only : (x : A) (k : List Token) (r a b : ℕ) → Good x → Follow k → a ≡ used x + b → one (at (spelling x ++ k) r a) ≡ Ok (x, at k r b))
+    (one_begins : (x : A) (k : List Token) → begins (first (spelling x ++ k)) ≡ true) where
   module _ (commas : (k : List Token) → Follow (t.Mark m.Comma ∷ k)) where
     follows : (xs : List A) (k : List Token) → Follow k → Follow (spell.behind_commas spelling xs ++ k)
     follows [] k h = h

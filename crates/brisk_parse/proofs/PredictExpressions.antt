@@ -97,10 +97,10 @@ by_operators which go e m i = by_operator (which (first i.rest)) (λ op i. and_t
 operators_rule : (which : Option Token → Option Op2) → ((l : List Token) (op : Op2) → which (first l) ≡ Some op → first l ≡ Some (operator_token op)) → ((o : Option Token) → ends o ≡ true → which o ≡ None) → (go : Op2 → Family Expression) → ((op : Op2) → Rule any (go op) ends) → (e : Expression) → Rule ends (by_operators which go e) ends
 operators_rule which token free go rule e =
     choice_rule ends ends (λ o. has (which o)) (by_operators which go e) e (λ m r n k h. rw (has_none (which (first k)) h) refl) (λ o h. ap has (free o h)) (λ o h. h)
-      (λ i h.
-        let is = has_some (which (first i.rest)) h in
-        moves_to none (joined spending (λ _. go is.0)) (by_operators which go e) ends i (λ m r n l g. let same = ap which g ∙ is.1 in rw same refl)
-          (join_shape none any ends spending (λ _. go is.0) i (spend i) ((spend_gate (operator_token is.0)).opens i (token i.rest is.0 is.1)) (λ _. rule is.0)))
+    (λ i h.
+    let is = has_some (which (first i.rest)) h in
+    moves_to none (joined spending (λ _. go is.0)) (by_operators which go e) ends i (λ m r n l g. let same = ap which g ∙ is.1 in rw same refl)
+    (join_shape none any ends spending (λ _. go is.0) i (spend i) ((spend_gate (operator_token is.0)).opens i (token i.rest is.0 is.1)) (λ _. rule is.0)))
 
 operator_first : (l : Level) (k : List Token) (op : Op2) → operator l (first k) ≡ Some op → first k ≡ Some (operator_token op)
 operator_first l k op h = ap first (operator_found l k op h).spelled
@@ -144,14 +144,14 @@ module _ (l : Level) (next : Family Expression) (item : Item begins_expression n
           bound = 1 + c.bound;
           enters = λ k f. inl (sym h);
           reads = λ m r n k le room count f.
-            let one = c.reads m (r - 1) n k (omega (arith, le)) (omega (arith, room)) (omega (arith, count)) f in
-            record {
-              room = one.room;
-              statements = one.statements;
-              has_room = omega (arith, one.has_room);
-              has_statements = omega (arith, one.has_statements);
-              is = ap (λ r. tail l (next m) m e (at (u ∷ item.token ∷ (c.more ++ k)) r n)) (omega (arith, room)) ∙ tail_one m m (r - 1) one.room n one.statements op e c.value u (item.token ∷ (c.more ++ k)) k (omega (arith, le)) is one.is (free_end (first k) f);
-            };
+              let one = c.reads m (r - 1) n k (omega (arith, le)) (omega (arith, room)) (omega (arith, count)) f in
+              record {
+                room = one.room;
+                statements = one.statements;
+                has_room = omega (arith, one.has_room);
+                has_statements = omega (arith, one.has_statements);
+                is = ap (λ r. tail l (next m) m e (at (u ∷ item.token ∷ (c.more ++ k)) r n)) (omega (arith, room)) ∙ tail_one m m (r - 1) one.room n one.statements op e c.value u (item.token ∷ (c.more ++ k)) k (omega (arith, le)) is one.is (free_end (first k) f);
+              };
         };
       })
 
@@ -159,13 +159,13 @@ module _ (l : Level) (next : Family Expression) (item : Item begins_expression n
   unfolding tail
   tail_rule zero e =
       choice_rule ends ends (λ o. has (operator l o)) (tails zero e) e (λ m r n k h. tail_out m m r n e k (has_none (operator l (first k)) h)) (λ o h. ap has (free_end o h)) (λ o h. h)
-        (λ i h.
-          let is = has_some (operator l (first i.rest)) h in
-          let there = operator_first l i.rest is.0 is.1 in
-          tail_zero e i is.0 (operator_token is.0) there (ap (operator l) (sym there) ∙ is.1))
+      (λ i h.
+      let is = has_some (operator l (first i.rest)) h in
+      let there = operator_first l i.rest is.0 is.1 in
+      tail_zero e i is.0 (operator_token is.0) there (ap (operator l) (sym there) ∙ is.1))
   tail_rule (suc n) e =
       operators_rule (operator l) (operator_first l) free_end (λ op. joined next (λ f. tails n (Bin op e f)))
-        (λ op. then_rule (item_rule begins_expression next ends item any item.token item.begins_token refl) (λ f. tail_rule n (Bin op e f))) e
+      (λ op. then_rule (item_rule begins_expression next ends item any item.token item.begins_token refl) (λ f. tail_rule n (Bin op e f))) e
 
 abbrev operands : Level → ℕ → Family Expression
 operands l n m = operand l (plus n m) (unary (plus n m))
@@ -176,7 +176,7 @@ chains l n m = chain l (plus n m) (unary (plus n m))
 chain_item : (l : Level) (n : ℕ) → Item begins_expression (operands l n) ends → Item begins_expression (chains l n) ends
 chain_item l n item =
     item_same begins_expression (joined (operands l n) (λ e. tails l (operands l n) item n e)) (chains l n) ends (λ m i. sym (chain_is l (plus n m) (unary (plus n m)) i))
-      (item_then begins_expression (operands l n) ends (λ e. tails l (operands l n) item n e) ends item (λ e. tail_rule l (operands l n) item n e))
+    (item_then begins_expression (operands l n) ends (λ e. tails l (operands l n) item n e) ends item (λ e. tail_rule l (operands l n) item n e))
 
 comparison_first : (k : List Token) (op : Op2) → comparison_operator (first k) ≡ Some op → first k ≡ Some (operator_token op)
 comparison_first k op h = ap first (comparison_found k op h).spelled
@@ -186,8 +186,8 @@ unfolding comparison compared
 comparison_item n item =
     let go : Expression → Op2 → Family Expression = λ e op. joined (chains level.Sum n) (λ f m i. Ok (Bin op e f, i)) in
     item_then begins_expression (chains level.Sum n) ends (λ e. by_operators comparison_operator (go e) e) ends item
-      (λ e. operators_rule comparison_operator comparison_first (λ o h. no_comparison o (omega (arith, ends_binding o h))) (go e)
-        (λ op. then_rule (item_rule begins_expression (chains level.Sum n) ends item any item.token item.begins_token refl) (λ f. value_rule ends (Bin op e f))) e)
+    (λ e. operators_rule comparison_operator comparison_first (λ o h. no_comparison o (omega (arith, ends_binding o h))) (go e)
+    (λ op. then_rule (item_rule begins_expression (chains level.Sum n) ends item any item.token item.begins_token refl) (λ f. value_rule ends (Bin op e f))) e)
 
 abbrev unaries : ℕ → Family Expression
 unaries n m = unary (plus n m)
@@ -273,8 +273,8 @@ unfolding variable_or_tag
 tag_rule x =
     let more : Family Expression = joined (λ m. take_name) (λ y m i. Ok (Tag x y, i)) in
     choice_rule any ends (is_token (t.Mark mk.Dot)) (λ m. variable_or_tag x) (Var x) (λ m r n k h. rw h refl) (λ o h. no_dot o (omega (arith, ends_binding o h))) ends_any
-      (λ i h. moves_to none (joined spending (λ _. more)) (λ m. variable_or_tag x) ends i (λ m r n l g. let is = ap (is_token (t.Mark mk.Dot)) g ∙ h in rw is refl)
-        (join_shape none any ends spending (λ _. more) i (spend i) ((spend_gate (t.Mark mk.Dot)).opens i (seen (t.Mark mk.Dot) (first i.rest) h)) (λ _. then_rule take_name_rule (λ y. pure_rule any ends (Tag x y) ends_any))))
+    (λ i h. moves_to none (joined spending (λ _. more)) (λ m. variable_or_tag x) ends i (λ m r n l g. let is = ap (is_token (t.Mark mk.Dot)) g ∙ h in rw is refl)
+    (join_shape none any ends spending (λ _. more) i (spend i) ((spend_gate (t.Mark mk.Dot)).opens i (seen (t.Mark mk.Dot) (first i.rest) h)) (λ _. then_rule take_name_rule (λ y. pure_rule any ends (Tag x y) ends_any))))
 
 unary_entry : (n : ℕ) → Item begins_expression (unaries n) ends → (u : Token) → begins_expression (Some u) ≡ true → Entry (unaries (suc n)) ends u
 unfolding unary
@@ -347,8 +347,8 @@ restored_lives n G before s = record {
   bound = s.bound;
   enters = s.enters;
   reads = λ m r c k le room count h.
-    let one = s.reads m (plus n m) c k le (omega (arith, le, plus_more n m)) count h in
-    record { room = r; statements = one.statements; has_room = omega arith; has_statements = one.has_statements; is = restored_ok n m r c one.room one.statements (before ++ (s.more ++ k)) k s.value one.is };
+      let one = s.reads m (plus n m) c k le (omega (arith, le, plus_more n m)) count h in
+      record { room = r; statements = one.statements; has_room = omega arith; has_statements = one.has_statements; is = restored_ok n m r c one.room one.statements (before ++ (s.more ++ k)) k s.value one.is };
 }
 
 restored_passed : (n : ℕ) (i : Input) (kind : ℕ → Stop) (left : ℕ) → Passed none (chains level.Or n) ends kind (roomy n i) left → Passed none (wholes n) ends kind i left
@@ -372,8 +372,8 @@ restored_shape n i (Ok x) s = record {
   counts = s.counts;
   enters = s.enters;
   again = λ m r r' c c' k e f le lf h.
-    restored_ok n m r c (plus n m - s.spent) c' (s.text ++ k) k x.0 (s.again m (plus n m) (plus n m - s.spent) c c' k (omega (arith, s.rooms, plus_up n m)) f (omega (arith, s.rooms, plus_up n m)) lf h)
-    ∙ ap (λ r. Ok (x.0, at k r c')) (omega (arith, e));
+      restored_ok n m r c (plus n m - s.spent) c' (s.text ++ k) k x.0 (s.again m (plus n m) (plus n m - s.spent) c c' k (omega (arith, s.rooms, plus_up n m)) f (omega (arith, s.rooms, plus_up n m)) lf h)
+      ∙ ap (λ r. Ok (x.0, at k r c')) (omega (arith, e));
 }
 restored_shape n i (Err (Syntax left)) s = record {
   before = s.before;

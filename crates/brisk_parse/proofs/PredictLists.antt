@@ -157,8 +157,7 @@ abbrev pub comma : Token
 comma = t.Mark mk.Comma
 
 module _ {A : Type 0} (begins : Follow) (one : Family A) (F : Follow) (item : Item begins one F) (S : Follow)
-  (stop : (o : Option Token) → S o ≡ true → is_token comma o ≡ false) (sub : (o : Option Token) → S o ≡ true → F o ≡ true) (goes_on : F (Some comma) ≡ true) (end : begins None ≡ false) where
-
+    (stop : (o : Option Token) → S o ≡ true → is_token comma o ≡ false) (sub : (o : Option Token) → S o ≡ true → F o ≡ true) (goes_on : F (Some comma) ≡ true) (end : begins None ≡ false) where
   abbrev pub commas : ℕ → Family (List A)
   commas n m = others begins (one m) (plus n m)
 
@@ -182,14 +181,14 @@ module _ {A : Type 0} (begins : Follow) (one : Family A) (F : Follow) (item : It
         bound = 1 + c.bound;
         enters = λ k h. g (u ∷ (c.more ++ k));
         reads = λ m r n k le room count h.
-          let one_read = c.reads m r n k (omega (arith, le)) (omega (arith, room)) (omega (arith, count)) (sub (first k) h) in
-          record {
-            room = one_read.room;
-            statements = one_read.statements;
-            has_room = omega (arith, one_read.has_room);
-            has_statements = omega (arith, one_read.has_statements);
-            is = one_other m m r n one_read.room one_read.statements u c.value (c.more ++ k) k (omega (arith, le)) one_read.is (stop (first k) h);
-          };
+            let one_read = c.reads m r n k (omega (arith, le)) (omega (arith, room)) (omega (arith, count)) (sub (first k) h) in
+            record {
+              room = one_read.room;
+              statements = one_read.statements;
+              has_room = omega (arith, one_read.has_room);
+              has_statements = omega (arith, one_read.has_statements);
+              is = one_other m m r n one_read.room one_read.statements u c.value (c.more ++ k) k (omega (arith, le)) one_read.is (stop (first k) h);
+            };
       }
 
   zero_refuses : (m p r n : ℕ) (k : List Token) → begins (first k) ≡ false → others begins (one m) p (at (comma ∷ k) r n) ≡ Err (Syntax (length k))
@@ -238,8 +237,8 @@ module _ {A : Type 0} (begins : Follow) (one : Family A) (F : Follow) (item : It
       let more : A → Family (List A) = λ x. joined (commas n) (λ xs m i. Ok (x ∷ xs, i)) in
       let rule : Rule any (joined one more) S = then_rule (item_rule begins one F item any item.token item.begins_token refl) (λ x. then_rule (others_rule n) (λ xs. value_rule S (x ∷ xs))) in
       choice_rule F S (is_token comma) (commas (suc n)) [] (λ m r c k h. others_end m (suc (plus n m)) r c k h) stop sub
-        (λ i h. moves_to none (joined free (λ _. joined one more)) (commas (suc n)) S i (λ m r c l g. let is = ap (is_token comma) g ∙ h in rw is refl)
-          (join_shape none any S free (λ _. joined one more) i (free 0 i) ((free_gate comma).opens i (seen comma (first i.rest) h)) (λ _. rule)))
+      (λ i h. moves_to none (joined free (λ _. joined one more)) (commas (suc n)) S i (λ m r c l g. let is = ap (is_token comma) g ∙ h in rw is refl)
+      (join_shape none any S free (λ _. joined one more) i (free 0 i) ((free_gate comma).opens i (seen comma (first i.rest) h)) (λ _. rule)))
 
   pub separated_rule : (E : Follow) (n : ℕ) (u : Token) → begins (Some u) ≡ true → E (Some u) ≡ true → Rule E (λ m. separated begins (one m) (plus n m)) S
   unfolding separated
@@ -250,14 +249,13 @@ module _ {A : Type 0} (begins : Follow) (one : Family A) (F : Follow) (item : It
   listed_rule E n stops subs =
       let more : A → Family (List A) = λ x. joined (commas n) (λ xs m i. Ok (x ∷ xs, i)) in
       choice_rule E S begins (λ m. listed begins (one m) (plus n m)) [] (λ m r c k h. rw h refl) stops subs
-        (λ i h. moves_to none (joined one more) (λ m. listed begins (one m) (plus n m)) S i (λ m r c l g. let is = ap begins g ∙ h in rw is refl)
-          (join_shape none F S one more i (one 0 i) (item.begun i h) (λ x. then_rule (others_rule n) (λ xs. value_rule S (x ∷ xs)))))
+      (λ i h. moves_to none (joined one more) (λ m. listed begins (one m) (plus n m)) S i (λ m r c l g. let is = ap begins g ∙ h in rw is refl)
+      (join_shape none F S one more i (one 0 i) (item.begun i h) (λ x. then_rule (others_rule n) (λ xs. value_rule S (x ∷ xs)))))
 
 -- ---- items one after another
 
 module _ {A B : Type 0} (begins : Follow) (one : Family A) (F : Follow) (item : Item begins one F) (S : Follow) (last : B) (joint : A → B → B)
-  (stop : (o : Option Token) → S o ≡ true → begins o ≡ false) (sub : (o : Option Token) → S o ≡ true → F o ≡ true) (end : begins None ≡ false) where
-
+    (stop : (o : Option Token) → S o ≡ true → begins o ≡ false) (sub : (o : Option Token) → S o ≡ true → F o ≡ true) (end : begins None ≡ false) where
   abbrev pub manies : ℕ → Family B
   manies n m = many begins (one m) last joint (plus n m)
 
@@ -292,14 +290,14 @@ module _ {A B : Type 0} (begins : Follow) (one : Family A) (F : Follow) (item : 
           bound = 1 + c.bound;
           enters = λ k f. inl (sym h);
           reads = λ m r n k le room count f.
-            let one_read = c.reads m r n k (omega (arith, le)) (omega (arith, room)) (omega (arith, count)) (sub (first k) f) in
-            record {
-              room = one_read.room;
-              statements = one_read.statements;
-              has_room = omega (arith, one_read.has_room);
-              has_statements = omega (arith, one_read.has_statements);
-              is = one_many m m r n one_read.room one_read.statements u c.value (c.more ++ k) k (omega (arith, le)) g one_read.is (stop (first k) f);
-            };
+              let one_read = c.reads m r n k (omega (arith, le)) (omega (arith, room)) (omega (arith, count)) (sub (first k) f) in
+              record {
+                room = one_read.room;
+                statements = one_read.statements;
+                has_room = omega (arith, one_read.has_room);
+                has_statements = omega (arith, one_read.has_statements);
+                is = one_many m m r n one_read.room one_read.statements u c.value (c.more ++ k) k (omega (arith, le)) g one_read.is (stop (first k) f);
+              };
         };
       })
 
@@ -309,5 +307,5 @@ module _ {A B : Type 0} (begins : Follow) (one : Family A) (F : Follow) (item : 
   many_rule E subs (suc n) =
       let more : A → Family B = λ x. joined (manies n) (λ y m i. Ok (joint x y, i)) in
       choice_rule E S begins (manies (suc n)) last (λ m r c k h. many_end m (suc (plus n m)) r c k h) stop subs
-        (λ i h. moves_to none (joined one more) (manies (suc n)) S i (λ m r c l g. let is = ap begins g ∙ h in rw is refl)
-          (join_shape none F S one more i (one 0 i) (item.begun i h) (λ x. then_rule (many_rule F sub n) (λ y. value_rule S (joint x y)))))
+      (λ i h. moves_to none (joined one more) (manies (suc n)) S i (λ m r c l g. let is = ap begins g ∙ h in rw is refl)
+      (join_shape none F S one more i (one 0 i) (item.begun i h) (λ x. then_rule (many_rule F sub n) (λ y. value_rule S (joint x y)))))

@@ -67,8 +67,8 @@ flag_rule : (k : Token) (S : Follow) → ((o : Option Token) → S o ≡ true �
 unfolding flag
 flag_rule k S stop =
     choice_rule any S (is_token k) (λ m. flag k) false (λ m r n l h. rw h refl) stop (to_any S)
-      (λ i h. moves_to none (joined free (λ _ m i. Ok (true, i))) (λ m. flag k) S i (λ m r n l g. let is = ap (is_token k) g ∙ h in rw is refl)
-        (join_shape none any S free (λ _ m i. Ok (true, i)) i (free 0 i) ((free_gate k).opens i (seen k (first i.rest) h)) (λ _. pure_rule any S true (to_any S))))
+    (λ i h. moves_to none (joined free (λ _ m i. Ok (true, i))) (λ m. flag k) S i (λ m r n l g. let is = ap (is_token k) g ∙ h in rw is refl)
+    (join_shape none any S free (λ _ m i. Ok (true, i)) i (free 0 i) ((free_gate k).opens i (seen k (first i.rest) h)) (λ _. pure_rule any S true (to_any S))))
 
 -- ---- declarations
 
@@ -222,8 +222,8 @@ module _ (l : Limits) where
     is_gate = free_gate (t.Word w.KwChannel);
     more = joined (λ m. name) (λ c. joined (λ m. expect (t.Mark mk.LParen)) (λ _. joined (λ m. listed begins_kind kind (slack l m).kinds) (λ ks. joined (λ m. expect right_paren) (λ _. joined (λ m. flag (t.Word w.KwLoose)) (λ loose. joined (λ m. expect semi) (λ _ m i. Ok (record { name = c; kinds = ks; loose = loose }, i)))))));
     rule =
-      then_rule name_rule (λ c. then_rule (expect_rule any (t.Mark mk.LParen) refl) (λ _. then_rule kinds_rule (λ ks. then_rule (expect_rule (is_token right_paren) right_paren refl) (λ _.
-      then_rule (flag_rule (t.Word w.KwLoose) (is_token semi) (only semi (is_token (t.Word w.KwLoose)) false refl)) (λ loose. then_rule (expect_rule (is_token semi) semi refl) (λ _. value_rule any _))))));
+        then_rule name_rule (λ c. then_rule (expect_rule any (t.Mark mk.LParen) refl) (λ _. then_rule kinds_rule (λ ks. then_rule (expect_rule (is_token right_paren) right_paren refl) (λ _.
+        then_rule (flag_rule (t.Word w.KwLoose) (is_token semi) (only semi (is_token (t.Word w.KwLoose)) false refl)) (λ loose. then_rule (expect_rule (is_token semi) semi refl) (λ _. value_rule any _))))));
     is = λ m r n k. refl;
   }
   channel_entry _ h = absurd cc

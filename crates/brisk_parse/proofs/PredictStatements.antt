@@ -144,8 +144,8 @@ module _ (l : Limits) where
     otherwise_rule e a =
         let more : Family Statement = joined (blocks d) (λ b m i. Ok (IfElse e a b, i)) in
         choice_rule any after_statement (is_token (t.Word w.KwElse)) (λ m. otherwise (blocks d m) e a) (If e a) (λ m r n k h. rw h refl) no_else (to_any after_statement)
-          (λ i h. moves_to none (joined free (λ _. more)) (λ m. otherwise (blocks d m) e a) after_statement i (λ m r n z g. let is = ap (is_token (t.Word w.KwElse)) g ∙ h in rw is refl)
-            (join_shape none any after_statement free (λ _. more) i (free 0 i) ((free_gate (t.Word w.KwElse)).opens i (seen (t.Word w.KwElse) (first i.rest) h)) (λ _. then_rule (block_rule any refl) (λ b. statement_value (IfElse e a b)))))
+        (λ i h. moves_to none (joined free (λ _. more)) (λ m. otherwise (blocks d m) e a) after_statement i (λ m r n z g. let is = ap (is_token (t.Word w.KwElse)) g ∙ h in rw is refl)
+        (join_shape none any after_statement free (λ _. more) i (free 0 i) ((free_gate (t.Word w.KwElse)).opens i (seen (t.Word w.KwElse) (first i.rest) h)) (λ _. then_rule (block_rule any refl) (λ b. statement_value (IfElse e a b)))))
 
     choice_statement : Rule any (λ m. choice (slack l m) (blocks d m)) after_statement
     unfolding choice

@@ -106,16 +106,16 @@ join_complete E b S p q i x j before t done = record {
   bound = i.room + i.statements + done.bound;
   enters = λ k h. subst (λ l. Fits E i.rest l) (sym (append_assoc t.text before (done.more ++ k))) (t.enters (before ++ (done.more ++ k)) (done.enters k h));
   reads = λ m r n k le room count h.
-    let next = done.reads m (r - t.spent) (n - t.counted) k (omega (arith, le)) (omega (arith, room, t.rooms)) (omega (arith, count, t.counts)) h in
-    record {
-      room = next.room;
-      statements = next.statements;
-      has_room = omega (arith, next.has_room, t.rooms);
-      has_statements = omega (arith, next.has_statements, t.counts);
-      is = ap (λ l. joined p q m (at l r n)) (append_assoc t.text before (done.more ++ k))
-        ∙ ap (λ o. and_then o (λ x. q x m)) (t.again m r (r - t.spent) n (n - t.counted) (before ++ (done.more ++ k)) (omega (arith, room, t.rooms)) (omega (arith, count, t.counts)) (omega (arith, room, t.rooms)) (omega (arith, count, t.counts)) (done.enters k h))
-        ∙ next.is;
-    };
+      let next = done.reads m (r - t.spent) (n - t.counted) k (omega (arith, le)) (omega (arith, room, t.rooms)) (omega (arith, count, t.counts)) h in
+      record {
+        room = next.room;
+        statements = next.statements;
+        has_room = omega (arith, next.has_room, t.rooms);
+        has_statements = omega (arith, next.has_statements, t.counts);
+        is = ap (λ l. joined p q m (at l r n)) (append_assoc t.text before (done.more ++ k))
+            ∙ ap (λ o. and_then o (λ x. q x m)) (t.again m r (r - t.spent) n (n - t.counted) (before ++ (done.more ++ k)) (omega (arith, room, t.rooms)) (omega (arith, count, t.counts)) (omega (arith, room, t.rooms)) (omega (arith, count, t.counts)) (done.enters k h))
+            ∙ next.is;
+      };
 }
 
 join_passed : {A B : Type 0} (E b : Follow) (S : Follow) (p : Family A) (q : A → Family B) (kind : ℕ → Stop) (i : Input) (x : A) (j : Input) (left : ℕ) (t : Took E p b i x j) → Passed b (q x) S kind j left → Passed E (joined p q) S kind i left
@@ -126,10 +126,10 @@ join_passed E b S p q kind i x j left t s = record {
   parts = t.parts ∙ ap (λ l. t.text ++ l) s.parts ∙ sym (append_assoc t.text s.before (s.token ∷ s.rest));
   place = s.place;
   again = λ k h.
-    let same : first (s.before ++ k) ≡ first j.rest = first_after s.before k (s.token ∷ s.rest) h ∙ sym (ap first s.parts) in
-    ap (λ l. joined p q 0 (at l i.room i.statements)) (append_assoc t.text s.before k)
-    ∙ ap (λ o. and_then o (λ x. q x 0)) (t.again 0 i.room j.room i.statements j.statements (s.before ++ k) t.rooms t.counts (omega arith) (omega arith) (inl same))
-    ∙ s.again k h;
+      let same : first (s.before ++ k) ≡ first j.rest = first_after s.before k (s.token ∷ s.rest) h ∙ sym (ap first s.parts) in
+      ap (λ l. joined p q 0 (at l i.room i.statements)) (append_assoc t.text s.before k)
+      ∙ ap (λ o. and_then o (λ x. q x 0)) (t.again 0 i.room j.room i.statements j.statements (s.before ++ k) t.rooms t.counts (omega arith) (omega arith) (inl same))
+      ∙ s.again k h;
   viable = subst (λ l. Completes (Fits E i.rest) (joined p q) S l) (sym (append_assoc t.text s.before (s.token ∷ []))) (join_complete E b S p q i x j (s.before ++ s.token ∷ []) t s.viable);
 }
 
@@ -143,9 +143,9 @@ join_second E b S p q i x j t (Ok y) s = record {
   counts = omega (arith, t.counts, s.counts);
   enters = λ k h. subst (λ l. Fits E i.rest l) (sym (append_assoc t.text s.text k)) (t.enters (s.text ++ k) (s.enters k h));
   again = λ m r r' n n' k e f le lf h.
-    ap (λ l. joined p q m (at l r n)) (append_assoc t.text s.text k)
-    ∙ ap (λ o. and_then o (λ x. q x m)) (t.again m r (s.spent + r') n (s.counted + n') (s.text ++ k) (omega (arith, e)) (omega (arith, f)) (omega (arith, le, s.rooms)) (omega (arith, lf, s.counts)) (s.enters k h))
-    ∙ s.again m (s.spent + r') r' (s.counted + n') n' k refl refl le lf h;
+      ap (λ l. joined p q m (at l r n)) (append_assoc t.text s.text k)
+      ∙ ap (λ o. and_then o (λ x. q x m)) (t.again m r (s.spent + r') n (s.counted + n') (s.text ++ k) (omega (arith, e)) (omega (arith, f)) (omega (arith, le, s.rooms)) (omega (arith, lf, s.counts)) (s.enters k h))
+      ∙ s.again m (s.spent + r') r' (s.counted + n') n' k refl refl le lf h;
 }
 join_second E b S p q i x j t (Err (Syntax left)) s = record {
   before = t.text ++ s.before;
@@ -153,10 +153,10 @@ join_second E b S p q i x j t (Err (Syntax left)) s = record {
   parts = t.parts ∙ ap (λ l. t.text ++ l) s.parts ∙ sym (append_assoc t.text s.before s.rest);
   place = s.place;
   again = λ m r n k le lf h.
-    let same : first (s.before ++ k) ≡ first j.rest = first_after s.before k s.rest h ∙ sym (ap first s.parts) in
-    ap (λ l. joined p q m (at l r n)) (append_assoc t.text s.before k)
-    ∙ ap (λ o. and_then o (λ x. q x m)) (t.again m r (r - t.spent) n (n - t.counted) (s.before ++ k) (omega (arith, le, t.rooms)) (omega (arith, lf, t.counts)) (omega (arith, le, t.rooms)) (omega (arith, lf, t.counts)) (inl same))
-    ∙ s.again m (r - t.spent) (n - t.counted) k (omega (arith, le, t.rooms)) (omega (arith, lf, t.counts)) h;
+      let same : first (s.before ++ k) ≡ first j.rest = first_after s.before k s.rest h ∙ sym (ap first s.parts) in
+      ap (λ l. joined p q m (at l r n)) (append_assoc t.text s.before k)
+      ∙ ap (λ o. and_then o (λ x. q x m)) (t.again m r (r - t.spent) n (n - t.counted) (s.before ++ k) (omega (arith, le, t.rooms)) (omega (arith, lf, t.counts)) (omega (arith, le, t.rooms)) (omega (arith, lf, t.counts)) (inl same))
+      ∙ s.again m (r - t.spent) (n - t.counted) k (omega (arith, le, t.rooms)) (omega (arith, lf, t.counts)) h;
   viable = join_complete E b S p q i x j s.before t s.viable;
 }
 join_second E b S p q i x j t (Err (TooMany left)) s = join_passed E b S p q (λ l. TooMany l) i x j left t s
@@ -165,23 +165,23 @@ join_second E b S p q i x j t (Err NoMemory) s = s
 
 pub join_lives : {A B : Type 0} (G : List Token → Type 0) (b S : Follow) (p : Family A) (q : A → Family B) (before : List Token) → Completes G p b before → ((x : A) → Completes (λ l. b (first l) ≡ true) (q x) S []) → Completes G (joined p q) S before
 join_lives G b S p q before s lives =
-  let l = lives s.value in
-  record {
-    more = s.more ++ l.more;
-    value = l.value;
-    bound = s.bound + l.bound;
-    enters = λ k h. subst (λ u. G (before ++ u)) (sym (append_assoc s.more l.more k)) (s.enters (l.more ++ k) (l.enters k h));
-    reads = λ m r n k le room count h.
-      let one = s.reads m r n (l.more ++ k) (omega (arith, le)) (omega (arith, room)) (omega (arith, count)) (l.enters k h) in
-      let two = l.reads m one.room one.statements k (omega (arith, le)) (omega (arith, room, one.has_room)) (omega (arith, count, one.has_statements)) h in
-      record {
-        room = two.room;
-        statements = two.statements;
-        has_room = omega (arith, one.has_room, two.has_room);
-        has_statements = omega (arith, one.has_statements, two.has_statements);
-        is = ap (λ u. joined p q m (at (before ++ u) r n)) (append_assoc s.more l.more k) ∙ ap (λ o. and_then o (λ x. q x m)) one.is ∙ two.is;
-      };
-  }
+    let l = lives s.value in
+    record {
+      more = s.more ++ l.more;
+      value = l.value;
+      bound = s.bound + l.bound;
+      enters = λ k h. subst (λ u. G (before ++ u)) (sym (append_assoc s.more l.more k)) (s.enters (l.more ++ k) (l.enters k h));
+      reads = λ m r n k le room count h.
+          let one = s.reads m r n (l.more ++ k) (omega (arith, le)) (omega (arith, room)) (omega (arith, count)) (l.enters k h) in
+          let two = l.reads m one.room one.statements k (omega (arith, le)) (omega (arith, room, one.has_room)) (omega (arith, count, one.has_statements)) h in
+          record {
+            room = two.room;
+            statements = two.statements;
+            has_room = omega (arith, one.has_room, two.has_room);
+            has_statements = omega (arith, one.has_statements, two.has_statements);
+            is = ap (λ u. joined p q m (at (before ++ u) r n)) (append_assoc s.more l.more k) ∙ ap (λ o. and_then o (λ x. q x m)) one.is ∙ two.is;
+          };
+    }
 
 pub join_shape : {A B : Type 0} (E b S : Follow) (p : Family A) (q : A → Family B) (i : Input) (o : Outcome A) → Shape E p b i o → ((x : A) → Rule b (q x) S) → Shape E (joined p q) S i (and_then o (λ x. q x 0))
 join_shape E b S p q i (Ok y) s second = join_second E b S p q i y.0 y.1 s (q y.0 0 y.1) ((second y.0).predicts y.1)
@@ -258,8 +258,8 @@ module _ {A : Type 0} (E : Follow) (p f : Family A) (S : Follow) (i : Input) (al
     bound = s.bound;
     enters = λ k h. inl (same_first i.rest _ (s.enters k h));
     reads = λ m r n k le room count h.
-      let one = s.reads m r n k le room count h in
-      record { room = one.room; statements = one.statements; has_room = one.has_room; has_statements = one.has_statements; is = alike m r n (before ++ (s.more ++ k)) (same_first i.rest _ (s.enters k h)) ∙ one.is };
+        let one = s.reads m r n k le room count h in
+        record { room = one.room; statements = one.statements; has_room = one.has_room; has_statements = one.has_statements; is = alike m r n (before ++ (s.more ++ k)) (same_first i.rest _ (s.enters k h)) ∙ one.is };
   }
 
   moved_passed : (kind : ℕ → Stop) (left : ℕ) → Passed none p S kind i left → Passed E f S kind i left
@@ -302,10 +302,10 @@ moves_to E p f S i alike s = subst (Shape E f S i) (sym (alike 0 i.room i.statem
 
 -- with a token that passes the test something is read, and otherwise nothing
 module _ {A : Type 0} (E S test : Follow) (f : Family A) (x : A)
-  (out : (m r n : ℕ) (k : List Token) → test (first k) ≡ false → f m (at k r n) ≡ Ok (x, at k r n))
-  (stop : (o : Option Token) → S o ≡ true → test o ≡ false)
-  (sub : (o : Option Token) → S o ≡ true → E o ≡ true)
-  (body : (i : Input) → test (first i.rest) ≡ true → Shape none f S i (f 0 i)) where
+    (out : (m r n : ℕ) (k : List Token) → test (first k) ≡ false → f m (at k r n) ≡ Ok (x, at k r n))
+    (stop : (o : Option Token) → S o ≡ true → test o ≡ false)
+    (sub : (o : Option Token) → S o ≡ true → E o ≡ true)
+    (body : (i : Input) → test (first i.rest) ≡ true → Shape none f S i (f 0 i)) where
   left_out : (rest k : List Token) → test (first rest) ≡ false → Fits S rest k → test (first k) ≡ false
   left_out rest k h (inl e) = ap test e ∙ h
   left_out rest k h (inr s) = stop (first k) s
@@ -385,8 +385,8 @@ module _ {A : Type 0} (begins : Follow) (p : Family A) (S : Follow) (entry : (u 
   entered u i b h =
       let e = entry u b in
       moves_to none (joined e.gate (λ _. e.more)) p S i
-        (λ m r n l g. let parts = first_is u l (g ∙ h) in ap (λ z. p m (at z r n)) parts ∙ e.is m r n (drop 1 l) ∙ ap (λ z. and_then (e.gate m (at z r n)) (λ _. e.more m)) (sym parts))
-        (join_shape none any S e.gate (λ _. e.more) i (e.gate 0 i) (e.is_gate.opens i h) (λ _. e.rule))
+      (λ m r n l g. let parts = first_is u l (g ∙ h) in ap (λ z. p m (at z r n)) parts ∙ e.is m r n (drop 1 l) ∙ ap (λ z. and_then (e.gate m (at z r n)) (λ _. e.more m)) (sym parts))
+      (join_shape none any S e.gate (λ _. e.more) i (e.gate 0 i) (e.is_gate.opens i h) (λ _. e.rule))
 
   from_first : (i : Input) (o : Option Token) → begins None ≡ false → first i.rest ≡ o → begins o ≡ true → Shape none p S i (p 0 i)
   from_first i None end h b = absurd cc
@@ -402,8 +402,8 @@ module _ {A : Type 0} (begins : Follow) (p : Family A) (S : Follow) (entry : (u 
         bound = s.bound;
         enters = s.enters;
         reads = λ m r n k le room count h.
-          let one = s.reads m r n k le room count h in
-          record { room = one.room; statements = one.statements; has_room = one.has_room; has_statements = one.has_statements; is = e.is m r n (s.more ++ k) ∙ one.is };
+            let one = s.reads m r n k le room count h in
+            record { room = one.room; statements = one.statements; has_room = one.has_room; has_statements = one.has_statements; is = e.is m r n (s.more ++ k) ∙ one.is };
       }
 
   pub item_of : begins None ≡ false → ((m r n : ℕ) (k : List Token) → begins (first k) ≡ false → p m (at k r n) ≡ Err (Syntax (length k))) → (u : Token) → begins (Some u) ≡ true → Item begins p S

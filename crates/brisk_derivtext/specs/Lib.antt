@@ -1,0 +1,5 @@
+pub mod Depths
+pub mod Falls
+pub mod Seen
+pub mod Steps
+pub mod Stored

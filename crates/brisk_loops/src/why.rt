@@ -1,0 +1,9 @@
+use brisk_basic::RuleFault;
+use brisk_derivtext::SideFault;
+
+/// The test of a rule that fails first.
+#[derive(Clone, Copy, Debug, PartialEq, Eq)]
+pub enum Why {
+    Rule(RuleFault),
+    Side(SideFault),
+}

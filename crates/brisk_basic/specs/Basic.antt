@@ -1,12 +1,12 @@
 -- The basic rules: each with its tests in order, the statement that it gives, and the next state.
-use Rattle.std.specs.Prelude.{ℕ, Bool, true, false, ◌&&◌, not, List, [], ◌∷◌, ◌++◌, map, Option, Some, None, Result, Ok, Err, if◌then◌else◌, nat_le}
+use Rattle.std.specs.Prelude.{ℕ, ◌&&◌, not, List, [], ◌∷◌, ◌++◌, map, Option, Some, None, Result, Ok, Err, if◌then◌else◌, nat_le}
 use Rattle.brisk_values.specs.declared.value.Value.{Value}
 use Rattle.brisk_values.specs.Names.{Name, same_name}
 use Rattle.brisk_syntax.specs.Stores.{is_true}
-use Rattle.brisk_syntax.specs.Syntax.{Expression, Assign, Send, Recv, If, IfElse, While, Code, done, ◌⨾◌, ◌then◌}
+use Rattle.brisk_syntax.specs.Syntax.{Expression, Assign, Send, Recv, If, IfElse, While, Code, ◌⨾◌, ◌then◌}
 use Rattle.brisk_seq.specs.Items.{Item}
 use Rattle.brisk_seq.specs.Items as item
-use Rattle.brisk_facts.specs.Facts.{Facts, with_value, with_values, without_facts}
+use Rattle.brisk_facts.specs.Facts.{with_value, with_values, without_facts}
 use Rattle.brisk_facts.specs.Learning.{folded}
 use Rattle.brisk_state.specs.Symbolic.{key, Symbolic, code_at, stands_for, with_code, numbers_at, with_numbers, is_in_use}
 use Rattle.brisk_basic.specs.declared.rule.Basic.{Basic}

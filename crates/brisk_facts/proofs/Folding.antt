@@ -1,13 +1,13 @@
 -- Folding gives the value.
-use Rattle.std.proofs.Common.{◌≡◌, ℕ, Option, Some, None, refl, sym, ap, ◌∙◌}
-use Rattle.std.specs.Prelude.{pos, option_map, option_and_then}
+use Rattle.std.proofs.Common.{◌≡◌, ℕ, Option, Some, None, refl, ap, ◌∙◌}
+use Rattle.std.specs.Prelude.{option_map, option_and_then}
 use Rattle.std.proofs.lemmas.Option.{same_Some}
 use Rattle.brisk_values.specs.declared.value.Value.{Value}
 use Rattle.brisk_values.specs.declared.operation.Op2.{Op2}
 use Rattle.brisk_values.specs.Names.{Name}
 use Rattle.brisk_values.specs.Operations.{applied1, applied2}
 use Rattle.brisk_syntax.specs.Syntax.{Expression, Num, Truth, Var, Tag, Size, Paren, Un, Bin}
-use Rattle.brisk_syntax.specs.Value.{or_false, value_of}
+use Rattle.brisk_syntax.specs.Value.{value_of}
 use Rattle.brisk_facts.specs.Learning.{fold}
 use Rattle.brisk_facts.specs.Laws.{Agrees}
 

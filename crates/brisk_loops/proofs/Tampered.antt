@@ -30,4 +30,7 @@ derived = record {
   branches_differ = refl;
   fact_lost = refl;
   too_deep = refl;
+  collect_unfolds = refl;
+  late_box_unfolds = refl;
+  collect_stops = refl;
 }

@@ -1,6 +1,6 @@
 -- Derivations of the small programs that are valid, and tampered ones with what fails first.
-use Rattle.std.specs.Prelude.{◌≡◌, ℕ, zero, suc, List, [], ◌∷◌}
-use Rattle.brisk_values.specs.Names.{Name}
+use Rattle.std.specs.Prelude.{◌≡◌, ℕ, zero, suc, List, [], ◌∷◌, Ok, Err}
+use Rattle.brisk_values.specs.Names.{Name, member}
 use Rattle.brisk_syntax.specs.declared.program.Program.{Program}
 use Rattle.brisk_seq.specs.Items.{Fill, nothing, ◌⨟◌}
 use Rattle.brisk_syntax.specs.Syntax.{Num}
@@ -13,6 +13,9 @@ use Rattle.brisk_derivtext.specs.Steps.{Step, Basic, Branch, While, For, Gather,
 use Rattle.brisk_loops.specs.declared.why.Why.{Why}
 use Rattle.brisk_loops.specs.declared.why.Why.TheVariants.{Rule, Side}
 use Rattle.brisk_loops.specs.Derives.{Failure, Valid, Invalid, sequential}
+use Rattle.brisk_seq.specs.Sequential.{BadChoice}
+use Rattle.brisk_loops.specs.Examples.{of_one, of_member, taking_from, two_members, all_inputs}
+use Rattle.brisk_loops.specs.Unfolding.{unfolded}
 use Rattle.brisk_loops.specs.Samples.{A, B, M, Ws, T, v, x, last, k, t, collect, collect_in_order, two_messages, maybe_empty_server}
 use Rattle.brisk_loops.specs.Protocols.{G, H, Ask, Reply, s, late_box, late_box_items, ask_all, ask_all_items, overtaking, unread, endless_sender, nested_for, one_sided, learnt_again, deep}
 
@@ -94,3 +97,10 @@ pub record Derivations : Type 0 where
   pub fact_lost : Invalid learnt_again (While A [] (known A ▷ assign A ▷ assign A ▷ no_steps) ▷ no_steps) (at_line 6 (Side side.FactLost))
   -- one rule too many in another
   pub too_deep : Invalid deep (branches 257) (at_line 258 (Side side.TooDeep))
+  -- canonical schedules: of `collect` with the second member first, and of `late_box`
+  pub collect_unfolds : unfolded collect collect_steps collect_in_order two_members (1 ∷ 0 ∷ []) 0
+      ≡ Ok (of_one M ∷ of_member Ws 1 ∷ taking_from M (member Ws 1) ∷ of_one M ∷ of_one M ∷ of_member Ws 0 ∷ taking_from M (member Ws 0) ∷ of_one M ∷ of_one M ∷ [])
+  pub late_box_unfolds : unfolded late_box late_box_steps (sequential late_box late_box_items) (all_inputs 7) [] 0
+      ≡ Ok (of_one A ∷ of_one A ∷ of_one A ∷ of_one B ∷ of_one B ∷ [])
+  -- a choice that was used already stops the sequential program, and so there is none
+  pub collect_stops : unfolded collect collect_steps collect_in_order two_members (1 ∷ 1 ∷ []) 0 ≡ Err (BadChoice 2)

@@ -1,8 +1,10 @@
 pub mod Derivations
 pub mod Derives
+pub mod Does
 pub mod Examples
 pub mod Faithful
 pub mod Heads
 pub mod Protocols
 pub mod Rules
 pub mod Samples
+pub mod Unfolding

@@ -5,14 +5,18 @@ use Rattle.brisk_lex.specs.declared.token.Placed.{Placed}
 use Rattle.brisk_syntax.specs.declared.program.Program.{Program}
 use Rattle.brisk_parse.specs.declared.fault.Stop.{Stop}
 use Rattle.brisk_parse.specs.declared.fault.Stop.TheVariants.{Syntax, TooDeep, TooMany, NoMemory}
-use Rattle.brisk_parse.specs.Answers.{AnswersStop, fault_at, IsAnswer}
+use Rattle.brisk_parse.specs.Answers.{AnswersStop, fault_at, IsAnswer, IsSequence}
 use Rattle.brisk_parse.specs.Declarations.{program}
 use Rattle.brisk_parse.specs.Faults.{IsFault}
 use Rattle.brisk_parse.specs.Input.{tokens_of}
-use Rattle.brisk_parse.specs.Limits.{source}
+use Rattle.brisk_seq.specs.declared.tree.SeqProgram.{SeqProgram}
+use Rattle.brisk_parse.specs.Limits.{source, sequence}
+use Rattle.brisk_parse.specs.Sequences.{sequential}
+use Rattle.brisk_parse.specs.SequenceSpelling.{DenotesSequence}
 use Rattle.brisk_parse.specs.Within.{Denotes}
 use Rattle.brisk_parse.proofs.Faulty.{program_stops}
 use Rattle.brisk_parse.proofs.OnlyPrograms.{program_only}
+use Rattle.brisk_parse.proofs.OnlySequences.{sequential_only}
 
 same_ok : {A E : Type 0} (x y : A) → (let r : Result A E = Ok x in r ≡ Ok y) → x ≡ y
 same_ok x y h = cc
@@ -33,3 +37,15 @@ stopped tokens (Syntax k) h = told tokens (Syntax k) h
 stopped tokens (TooDeep k) h = told tokens (TooDeep k) h
 stopped tokens (TooMany k) h = told tokens (TooMany k) h
 stopped tokens NoMemory h = tt
+
+-- ---- sequential programs
+
+-- the tokens denote at most one sequential program
+pub denotes_one_sequence : (tokens : List Placed) (P Q : SeqProgram) → DenotesSequence tokens P → DenotesSequence tokens Q → P ≡ Q
+denotes_one_sequence tokens P Q p q = same_ok P Q (sym (sequential_only tokens P p) ∙ sequential_only tokens Q q)
+
+pub sequence_stopped : (tokens : List Placed) (d : Stop) → AnswersStop d (sequential sequence tokens) → IsSequence tokens (Err (fault_at (length tokens) d))
+sequence_stopped tokens (Syntax k) h = λ P p. not_both (sequential sequence tokens) P (Syntax k) (sequential_only tokens P p) h
+sequence_stopped tokens (TooDeep k) h = λ P p. not_both (sequential sequence tokens) P (TooDeep k) (sequential_only tokens P p) h
+sequence_stopped tokens (TooMany k) h = λ P p. not_both (sequential sequence tokens) P (TooMany k) (sequential_only tokens P p) h
+sequence_stopped tokens NoMemory h = tt

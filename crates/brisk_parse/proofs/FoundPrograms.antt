@@ -96,14 +96,14 @@ input_found i =
       good = tt;
     })))))
 
-declaration_at : (rest : List Token) (r n : ℕ) → Found (declaration (at rest r n)) (Plain spell.declaration Any (at rest r n))
+pub declaration_at : (rest : List Token) (r n : ℕ) → Found (declaration (at rest r n)) (Plain spell.declaration Any (at rest r n))
 unfolding declaration
 declaration_at [] r n = found_err _ _
 declaration_at (t.Word w.KwVar ∷ rest) r n = variable_found (at rest r n)
 declaration_at (t.Word w.KwInput ∷ rest) r n = input_found (at rest r n)
 declaration_at (_ ∷ rest) r n = found_err _ _
 
-flag_found : (k : Word) (i : Input) → Found (flag (t.Word k) i) (Plain (spell.flag k) Any i)
+pub flag_found : (k : Word) (i : Input) → Found (flag (t.Word k) i) (Plain (spell.flag k) Any i)
 unfolding flag
 flag_found k i =
     found_if _ (sees (t.Word k) i) _ _
@@ -111,10 +111,10 @@ flag_found k i =
     (λ _. found_ok _ false i (record { spelled = refl; room = refl; statements = omega arith; good = tt }))
 
 module _ (l : Limits) where
-  abbrev EnumFits : EnumDecl → Type 0
+  abbrev pub EnumFits : EnumDecl → Type 0
   EnumFits e = HasTags e × EnumWithin l e
 
-  enumeration_found : (i : Input) → Found (enumeration l i) (Plain spell.enumeration EnumFits i)
+  pub enumeration_found : (i : Input) → Found (enumeration l i) (Plain spell.enumeration EnumFits i)
   unfolding enumeration
   enumeration_found i =
       found_then _ _ (expect (t.Word w.KwEnum) i) _ (expect_found (t.Word w.KwEnum) i) (λ _ j1 a1.

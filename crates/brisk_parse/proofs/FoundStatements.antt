@@ -67,10 +67,10 @@ none_used (x ∷ xs) = omega (arith, sum_by-cons (λ _. 0) x xs, none_used xs)
 pub plain : {A : Type 0} (spelling : List A → List Token) (P Q : List A → Type 0) (r : Outcome (List A)) (i : Input) → ((xs : List A) → P xs → Q xs) → Found r (Spelled spelling (sum_by (λ _. 0)) P i) → Found r (Plain spelling Q i)
 plain spelling P Q r i f h = found_so _ _ r (λ xs j a. record { spelled = a.spelled; room = a.room; statements = a.statements ∙ ap (λ n. n + j.statements) (none_used xs); good = f xs a.good }) h
 
-names_found : (l : Limits) (i : Input) → Found (names l i) (Plain spell.names (λ xs. length xs ≤ 1 + l.places) i)
+pub names_found : (l : Limits) (i : Input) → Found (names l i) (Plain spell.names (λ xs. length xs ≤ 1 + l.places) i)
 names_found l i = plain spell.names _ _ (names l i) i (λ xs h. h.1) (listed_found spell.name (λ _. 0) Any begins_name name name_found l.places i)
 
-expressions_found : (l : Limits) (i : Input) → Found (expressions l i) (Plain spell.expressions (λ es. AllByRecursion (Short l.tokens) es × (length es ≤ 1 + l.places)) i)
+pub expressions_found : (l : Limits) (i : Input) → Found (expressions l i) (Plain spell.expressions (λ es. AllByRecursion (Short l.tokens) es × (length es ≤ 1 + l.places)) i)
 expressions_found l i = plain spell.expressions _ _ (expressions l i) i (λ xs h. h) (listed_found spell.expression (λ _. 0) (Short l.tokens) begins_expression (expression l.tokens) (expression_found l.tokens) l.places i)
 
 -- ---- statements

@@ -4,10 +4,13 @@ pub mod Enough
 pub mod Faulty
 pub mod Found
 pub mod FoundExpressions
+pub mod FoundSequences
 pub mod FoundStatements
 pub mod FoundPrograms
+pub mod ItemLists
 pub mod OnlyExpressions
 pub mod OnlyPrograms
+pub mod OnlySequences
 pub mod OnlyStatements
 pub mod OnlyTokens
 pub mod Outcomes

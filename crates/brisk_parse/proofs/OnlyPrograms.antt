@@ -36,7 +36,7 @@ use Rattle.brisk_parse.proofs.FoundStatements.{none_used}
 use Rattle.brisk_parse.proofs.OnlyTokens.{separated_only, listed_only, list_only}
 use Rattle.brisk_parse.proofs.OnlyStatements.{name_only, all_any, all_both, code_first, code_only}
 
-same_count : (a b : ℕ) → a ≡ 0 + b → a ≡ b
+pub same_count : (a b : ℕ) → a ≡ 0 + b → a ≡ b
 same_count a b e = omega (arith, e)
 
 -- ---- declarations
@@ -60,17 +60,17 @@ constant_only (const.Bool true) k r n = refl
 constant_only (const.Bool false) k r n = refl
 constant_only (const.Tag e x) k r n = refl
 
-declaration_only : (d : Decl) (k : List Token) (r n : ℕ) → declaration (at (spell.declaration d ++ k) r n) ≡ Ok (d, at k r n)
+pub declaration_only : (d : Decl) (k : List Token) (r n : ℕ) → declaration (at (spell.declaration d ++ k) r n) ≡ Ok (d, at k r n)
 unfolding declaration variable input expect name
 declaration_only (decl.Var x y c) k r n =
     rw (← parts4 (spell.kind y) (spell.mark m.Equals) (spell.constant c) (spell.mark m.Semi) k, kind_only y (t.Mark m.Equals ∷ (spell.constant c ++ (t.Mark m.Semi ∷ k))) r n, constant_only c (t.Mark m.Semi ∷ k) r n) refl
 declaration_only (decl.Input x y) k r n = rw (append_assoc (spell.kind y) (spell.mark m.Semi) k, kind_only y (t.Mark m.Semi ∷ k) r n) refl
 
-declaration_begins : (d : Decl) (k : List Token) → begins_declaration (first (spell.declaration d ++ k)) ≡ true
+pub declaration_begins : (d : Decl) (k : List Token) → begins_declaration (first (spell.declaration d ++ k)) ≡ true
 declaration_begins (decl.Var x y c) k = refl
 declaration_begins (decl.Input x y) k = refl
 
-flag_only : (y : Word) (b : Bool) (k : List Token) (r n : ℕ) → is_token (t.Word y) (first k) ≡ false → flag (t.Word y) (at (spell.flag y b ++ k) r n) ≡ Ok (b, at k r n)
+pub flag_only : (y : Word) (b : Bool) (k : List Token) (r n : ℕ) → is_token (t.Word y) (first k) ≡ false → flag (t.Word y) (at (spell.flag y b ++ k) r n) ≡ Ok (b, at k r n)
 unfolding flag
 flag_only y true k r n h = rw (true_same word.the_type y y refl) refl
 flag_only y false k r n h = rw h refl
@@ -81,7 +81,7 @@ module _ (l : Limits) where
   tags_only (x ∷ xs) k r n some le =
       separated_only spell.name (λ _. 0) (λ _. Unit {0}) (λ _. Unit {0}) begins_name name (λ x k r a b good follow e. name_only x k r a b e) (λ x k. refl) (λ k. tt) l.tags x xs (t.Mark m.RBrace ∷ k) r n n (omega (arith, le)) tt (all_any xs) tt refl (omega (arith, none_used (x ∷ xs)))
 
-  enumeration_only : (e : EnumDecl) (k : List Token) (r n : ℕ) → HasTags e → EnumWithin l e → enumeration l (at (spell.enumeration e ++ k) r n) ≡ Ok (e, at k r n)
+  pub enumeration_only : (e : EnumDecl) (k : List Token) (r n : ℕ) → HasTags e → EnumWithin l e → enumeration l (at (spell.enumeration e ++ k) r n) ≡ Ok (e, at k r n)
   unfolding enumeration expect name
   enumeration_only e k r n some le = rw (append_assoc (spell.names e.tags) (spell.mark m.RBrace) k, tags_only e.tags k r n some le) refl
 
@@ -128,7 +128,7 @@ module _ (l : Limits) where
   role_of x true is_nonempty ds c k r a b ok e =
       rw (← parts5 (spell.flag w.KwNonempty is_nonempty) (spell.mark m.LBrace) (spell.all_of spell.declaration ds) (spell.code c) (spell.mark m.RBrace) k, ← parts3 (spell.all_of spell.declaration ds) (spell.code c) (spell.mark m.RBrace) k, flag_only w.KwNonempty is_nonempty (t.Mark m.LBrace ∷ (spell.all_of spell.declaration ds ++ behind c k)) r a refl) (block_of_role_only x true is_nonempty ds c k r a b ok e)
 
-  heading_starts : (f : Option Token → Bool) (x : Name) (is_many is_nonempty : Bool) (ds : List Decl) (c : Code) (k : List Token) (v : Bool) → f (Some (t.Word w.KwOne)) ≡ v → f (Some (t.Word w.KwMany)) ≡ v → f (first (spell.role (text x is_many is_nonempty ds c) ++ k)) ≡ v
+  pub heading_starts : (f : Option Token → Bool) (x : Name) (is_many is_nonempty : Bool) (ds : List Decl) (c : Code) (k : List Token) (v : Bool) → f (Some (t.Word w.KwOne)) ≡ v → f (Some (t.Word w.KwMany)) ≡ v → f (first (spell.role (text x is_many is_nonempty ds c) ++ k)) ≡ v
   heading_starts f x true is_nonempty ds c k v one many = many
   heading_starts f x false is_nonempty ds c k v one many = one
 

@@ -54,11 +54,11 @@ pub all_any : {A : Type 0} (xs : List A) → AllByRecursion (λ (x : A). Unit {0
 all_any [] = tt
 all_any (x ∷ xs) = (tt, all_any xs)
 
-names_only : (l : Limits) (xs : List Name) (k : List Token) (r n : ℕ) → length xs ≤ 1 + l.places → names l (at (spell.names xs ++ (t.Mark m.RParen ∷ k)) r n) ≡ Ok (xs, at (t.Mark m.RParen ∷ k) r n)
+pub names_only : (l : Limits) (xs : List Name) (k : List Token) (r n : ℕ) → length xs ≤ 1 + l.places → names l (at (spell.names xs ++ (t.Mark m.RParen ∷ k)) r n) ≡ Ok (xs, at (t.Mark m.RParen ∷ k) r n)
 names_only l xs k r n le =
     listed_only spell.name (λ _. 0) (λ _. Unit {0}) (λ _. Unit {0}) begins_name name (λ x k r a b good follow e. name_only x k r a b e) (λ x k. refl) (λ k. tt) l.places xs (t.Mark m.RParen ∷ k) r n n le (all_any xs) tt refl refl (omega (arith, none_used xs))
 
-expressions_only : (l : Limits) (es : List Expression) (k : List Token) (r n : ℕ) → length es ≤ 1 + l.places → AllByRecursion (Short l.tokens) es → expressions l (at (spell.expressions es ++ (t.Mark m.RParen ∷ k)) r n) ≡ Ok (es, at (t.Mark m.RParen ∷ k) r n)
+pub expressions_only : (l : Limits) (es : List Expression) (k : List Token) (r n : ℕ) → length es ≤ 1 + l.places → AllByRecursion (Short l.tokens) es → expressions l (at (spell.expressions es ++ (t.Mark m.RParen ∷ k)) r n) ≡ Ok (es, at (t.Mark m.RParen ∷ k) r n)
 expressions_only l es k r n le good =
     listed_only spell.expression (λ _. 0) (Short l.tokens) (λ k. binding (first k) ≡ 0) begins_expression (expression l.tokens)
     (λ e k r a b good free h. let same : a ≡ b = omega (arith, h) in rw same (expression_only l.tokens e k r b good.0 good.1 free))

@@ -2,8 +2,10 @@
 use Rattle.std.specs.Prelude.{◌≡◌, ℕ, ◌-◌, List, Result, Ok, Err}
 use Rattle.brisk_lex.specs.declared.token.Placed.{Placed}
 use Rattle.brisk_syntax.specs.declared.program.Program.{Program}
+use Rattle.brisk_seq.specs.declared.tree.SeqProgram.{SeqProgram}
 use Rattle.brisk_parse.specs.Faults.{IsFault}
 use Rattle.brisk_parse.specs.Input.{tokens_of}
+use Rattle.brisk_parse.specs.SequenceSpelling.{DenotesSequence}
 use Rattle.brisk_parse.specs.Within.{Denotes}
 use Rattle.brisk_parse.specs.declared.fault.Stop.{Stop}
 use Rattle.brisk_parse.specs.declared.fault.Stop.TheVariants as stop
@@ -42,3 +44,9 @@ abbrev pub IsAnswer : List Placed → Result Program ParseFault → Type 0
 IsAnswer tokens (Ok P) = Denotes tokens P
 IsAnswer tokens (Err NoMemory) = Unit {0}
 IsAnswer tokens (Err fault) = IsFault (tokens_of tokens) fault × ((P : Program) → Denotes tokens P → ⊥)
+
+-- Ok with the sequential program that the tokens denote, a fault where they denote none, or want of memory
+abbrev pub IsSequence : List Placed → Result SeqProgram ParseFault → Type 0
+IsSequence tokens (Ok P) = DenotesSequence tokens P
+IsSequence tokens (Err NoMemory) = Unit {0}
+IsSequence tokens (Err fault) = (P : SeqProgram) → DenotesSequence tokens P → ⊥

@@ -7,6 +7,8 @@ pub mod Levelled
 pub mod Limits
 pub mod Outcomes
 pub mod Reading
+pub mod SequenceSpelling
+pub mod Sequences
 pub mod Spelling
 pub mod Statements
 pub mod Within

@@ -18,3 +18,11 @@ pub record Limits : Type 0 where
 -- the limits of a source
 abbrev pub source : Limits
 source = record { tokens = 256; places = 15; kinds = 15; tags = 255; declarations = 256; enums = 256; channels = 1024; roles = 256; statements = 20000; nesting = 63 }
+
+-- the limits of a sequential text, whose items are counted as statements
+abbrev pub sequence : Limits
+sequence = record source { statements = 2000000; nesting = 320 }
+
+-- the greatest number of a box
+abbrev pub most_box : ℕ
+most_box = 4294967295

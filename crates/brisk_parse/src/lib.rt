@@ -8,7 +8,11 @@ mod level;
 mod lists;
 mod reader;
 mod roles;
+mod sequences;
 mod statements;
+#[cfg(test)]
+mod tests;
 
 pub use fault::ParseFault;
 pub use roles::program;
+pub use sequences::sequential;

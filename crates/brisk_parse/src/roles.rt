@@ -17,13 +17,13 @@ use brisk_values::Name;
 use std::alloc::Global;
 use std::rc::Rc;
 
-const ENUMS: usize = 256;
+pub const ENUMS: usize = 256;
 
 const CHANNELS: usize = 1024;
 
-const ROLES: usize = 256;
+pub const ROLES: usize = 256;
 
-const DECLARATIONS: usize = 256;
+pub const DECLARATIONS: usize = 256;
 
 /// How many blocks may nest in a role's block.
 const NESTING: usize = 63;

@@ -65,14 +65,14 @@ impl Item for Expr {
     }
 }
 
-fn names(reader: &mut Reader<'_>) -> Result<Names, Stop>
+pub fn names(reader: &mut Reader<'_>) -> Result<Names, Stop>
     ensures { Reads (λ x. x) result reader.new (spec.names source reader.old) }
 {
     let items = listed(reader, MORE_PLACES)?;
     Ok(Names { items })
 }
 
-fn expressions(reader: &mut Reader<'_>) -> Result<Exprs, Stop>
+pub fn expressions(reader: &mut Reader<'_>) -> Result<Exprs, Stop>
     ensures { Reads (λ x. x) result reader.new (spec.expressions source reader.old) }
 {
     let items = listed(reader, MORE_PLACES)?;

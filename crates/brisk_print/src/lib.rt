@@ -8,6 +8,10 @@ mod lines;
 mod pieces;
 mod programs;
 mod sequential;
+#[cfg(test)]
+mod tests;
+#[cfg(test)]
+mod worked;
 
 pub use laws::{program_layouts, sequential_layouts};
 pub use pieces::print_value;

@@ -1,5 +1,5 @@
 -- The quiet test: whether a member can send on a channel before it has heard from a receiver.
-use Rattle.std.specs.Prelude.{ℕ, zero, suc, ◌-◌, max, Bool, true, false, not, Option, Some, None, length, if◌then◌else◌}
+use Rattle.std.specs.Prelude.{ℕ, zero, suc, ◌-◌, max, Option, Some, None, length, if◌then◌else◌}
 use Rattle.brisk_values.specs.Functions.{changed}
 use Rattle.brisk_values.specs.Names.{Name, same_name}
 use Rattle.brisk_syntax.specs.declared.tree.Who.{Who}

@@ -1,0 +1,188 @@
+-- Assign, fill and take are sound.
+use Rattle.std.proofs.Common.{◌≡◌, ℕ, true, false, List, [], ◌∷◌, ◌++◌, map, Option, Some, None, refl, sym, ap, ◌∙◌}
+use Rattle.std.specs.Prelude.{option_and_then}
+use Rattle.std.proofs.lemmas.Option.{same_Some}
+use Rattle.brisk_values.specs.declared.value.Pid.{Pid}
+use Rattle.brisk_values.specs.declared.value.Value.{Value}
+use Rattle.brisk_values.specs.Functions.{changed}
+use Rattle.brisk_values.specs.Names.{Name, same_name, same_process, single}
+use Rattle.brisk_values.proofs.Changes.{exact_name}
+use Rattle.brisk_syntax.specs.declared.tree.Who.{Who}
+use Rattle.brisk_syntax.specs.declared.tree.Who.TheVariants as who
+use Rattle.brisk_syntax.specs.Stores.{stored, with_variables}
+use Rattle.brisk_syntax.specs.Syntax.{Expression, Assign, Send, Recv, Code, ◌⨾◌, ◌then◌}
+use Rattle.brisk_syntax.specs.Value.{value_of}
+use Rattle.brisk_seq.specs.Sequential.{Focus, with_box}
+use Rattle.brisk_async.specs.Machine.{Payload, queue, partner, payload_at, place_of, takes, effect, seen_by, unchanged, appended, taken}
+use Rattle.brisk_facts.specs.Learning.{fold}
+use Rattle.brisk_facts.proofs.Folding.{fold_value}
+use Rattle.brisk_state.specs.declared.thread.Mode.{Mode}
+use Rattle.brisk_state.specs.declared.thread.Mode.TheVariants.{One, At, Each}
+use Rattle.brisk_state.specs.Symbolic.{Key, key, same_key}
+use Rattle.brisk_loops.specs.Does as seq
+use Rattle.brisk_loops.proofs.Agree.{agrees_with, agrees_forgotten}
+use Rattle.brisk_loops.proofs.Events as events
+use Rattle.brisk_loops.proofs.Events.{Unique}
+use Rattle.brisk_loops.proofs.Fits.{World, Conf, Picks, Fits, active_live}
+use Rattle.brisk_loops.proofs.Leads.{state, event_leads, quiet_leads}
+use Rattle.brisk_loops.proofs.Readings.{Reading, is_active, has, who_by, code_by, stands_by, facts_with, forgotten}
+use Rattle.brisk_loops.proofs.Sound.{Typing, Sound, sound_going}
+
+-- a partner in focus or single is the thread's process
+pub partner_is : (mode : Name → Option Mode) (φ : Focus) (u : Name) (m : Option Mode) (w : Who) → Picks mode φ → mode u ≡ m → stands_by m u w ≡ true → partner (who_by φ w) ≡ φ u
+partner_is mode φ u (Some One) (who.Name n) picks a e = ap single (sym (exact_name u n e)) ∙ sym (picks.one u a)
+partner_is mode φ u (Some One) (who.At s) picks a e = cc
+partner_is mode φ u (Some One) (who.Pid p) picks a e = cc
+partner_is mode φ u (Some At) (who.Name n) picks a e = cc
+partner_is mode φ u (Some At) (who.At s) picks a e = ap φ (sym (exact_name u s e))
+partner_is mode φ u (Some At) (who.Pid p) picks a e = cc
+partner_is mode φ u (Some Each) w picks a e = cc
+partner_is mode φ u None w picks a e = cc
+
+-- a thread that a partner stands for is active
+pub stands_active : (m : Option Mode) (u : Name) (w : Who) → stands_by m u w ≡ true → is_active m ≡ true
+stands_active (Some One) u w e = refl
+stands_active (Some At) u w e = refl
+stands_active (Some Each) u w e = cc
+stands_active None u w e = cc
+
+-- what a receive on a strict channel does, where a payload waits
+pub takes_oldest : (world : World) (c : Conf) (p q : Pid) (C : Name) (xs : List Name) (w : Who) (K : Code) (m : Payload) → partner w ≡ q →
+    payload_at (c.mail (queue q p C)) 0 ≡ Some m →
+    effect (seen_by (state world c) p) p (Recv C xs w ⨾ K) None None ≡ Some record { next = K; variables = xs; values = m; mail = taken (queue q p C) 0 }
+takes_oldest world c p q C xs w K m is front =
+    ap (λ b. option_and_then (λ k. takes (queue (partner w) p C) xs K k (payload_at (c.mail (queue (partner w) p C)) k)) (place_of b None)) (world.strict C)
+    ∙ ap (λ z. takes (queue z p C) xs K 0 (payload_at (c.mail (queue z p C)) 0)) is
+    ∙ ap (takes (queue q p C) xs K 0) front
+
+module _ (world : World) (T : Typing world) (S : Reading) (t : Name) (act : is_active (S.mode t) ≡ true) where
+  abbrev pub after_assign : Name → Expression → Code → Reading
+  after_assign x e k = record S {
+    code = changed same_name S.code t k;
+    facts = changed same_name S.facts t (facts_with (S.facts t) (x ∷ []) (map (fold (S.facts t)) (e ∷ [])));
+  }
+
+  pub sound_assign : (x : Name) (e : Expression) (k : Code) → S.code t ≡ Assign x e ⨾ k → Sound world T S (seq.passes world.given t (x ∷ []) t (e ∷ [])) (after_assign x e k)
+  sound_assign x e k is =
+      sound_going world T S (seq.passes world.given t (x ∷ []) t (e ∷ [])) (after_assign x e k) (λ κ φ c typed picks f.
+      let vs = value_of world.given.sizes (c.store (φ t)) e ∷ [] in record {
+        to = record {
+          code = changed same_process c.code (φ t) (code_by φ k then κ (φ t));
+          store = stored c.store (φ t) (x ∷ []) vs;
+          mail = c.mail;
+          box = c.box;
+        };
+        leads =
+            event_leads world c (φ t) (Assign x e ⨾ (code_by φ k then κ (φ t))) record { next = code_by φ k then κ (φ t); variables = x ∷ []; values = vs; mail = unchanged } c.box
+            (events.own_code world S κ φ c picks t act f ∙ ap (λ z. code_by φ z then κ (φ t)) is) refl;
+        does = refl;
+        alone = λ m r. sym r;
+        fits = record {
+          sets = f.sets;
+          code = events.fits_code world S κ φ c picks t act f k;
+          mail = f.mail;
+          empty = f.empty;
+          facts = events.fits_facts world S κ φ c picks t act f (with_variables (c.store (φ t)) (x ∷ []) vs) (facts_with (S.facts t) (x ∷ []) (map (fold (S.facts t)) (e ∷ [])))
+              (let own = events.own_facts world S κ φ c picks t act f in agrees_with (c.store (φ t)) (S.facts t) (x ∷ []) (value_of world.given.sizes (c.store (φ t))) (fold (S.facts t)) (e ∷ []) own (fold_value world.given.sizes (c.store (φ t)) (S.facts t) own));
+        };
+        still = record {
+          code = events.untouched world S κ φ c picks t act c.code (code_by φ k then κ (φ t));
+          store = events.untouched world S κ φ c picks t act c.store (with_variables (c.store (φ t)) (x ∷ []) vs);
+          sent = λ p q d C. refl;
+          got = λ p q d C. refl;
+          box_sent = λ p q d n. refl;
+          box_got = λ p q d n. refl;
+        };
+      })
+
+module _ (world : World) (T : Typing world) (S : Reading) (t u : Name) (C : Name) where
+  abbrev pub after_fill : ℕ → Code → Reading
+  after_fill n k = record S {
+    code = changed same_name S.code t k;
+    pending = changed same_key S.pending (key t u C) (S.pending (key t u C) ++ n ∷ []);
+  }
+
+  pub sound_fill : (n : ℕ) (es : List Expression) (w : Who) (k : Code) → is_active (S.mode t) ≡ true → S.code t ≡ Send C es w ⨾ k → stands_by (S.mode u) u w ≡ true →
+      ((l : Key) → has n (S.pending l) ≡ false) → Sound world T S (seq.fills world.given n t u es) (after_fill n k)
+  sound_fill n es w k act is stands unused =
+      let act_u = stands_active (S.mode u) u w stands in
+      sound_going world T S (seq.fills world.given n t u es) (after_fill n k) (λ κ φ c typed picks f.
+      let vs = map (value_of world.given.sizes (c.store (φ t))) es in
+      let live_t = active_live world S.mode φ t picks act in let live_u = active_live world S.mode φ u picks act_u in
+      let no_box : c.box n (φ t) (φ u) ≡ None = f.empty (φ t) (φ u) live_t live_u n (λ D. unused (key (φ t).role (φ u).role D)) in record {
+        to = record {
+          code = changed same_process c.code (φ t) (code_by φ k then κ (φ t));
+          store = c.store;
+          mail = events.sent_mail world S κ φ c picks t act u act_u C n vs;
+          box = events.sent_box world S κ φ c picks t act u act_u C n vs;
+        };
+        leads =
+            quiet_leads world c (φ t) (Send C es (who_by φ w) ⨾ (code_by φ k then κ (φ t))) (code_by φ k then κ (φ t)) (appended (queue (φ t) (φ u) C) vs) (events.sent_box world S κ φ c picks t act u act_u C n vs)
+            (events.own_code world S κ φ c picks t act f ∙ ap (λ z. code_by φ z then κ (φ t)) is)
+            (λ i. Some record { next = code_by φ k then κ (φ t); variables = []; values = []; mail = appended (queue (φ t) (partner_is S.mode φ u (S.mode u) w picks refl stands i) C) vs });
+        does = (no_box, refl);
+        alone = λ m r. sym r.1;
+        fits = record {
+          sets = f.sets;
+          code = events.fits_code world S κ φ c picks t act f k;
+          mail = events.sent_fits world S κ φ c picks t act u act_u C n vs f unused;
+          empty = events.sent_empty world S κ φ c picks t act u act_u C n vs f unused;
+          facts = f.facts;
+        };
+        still = record {
+          code = events.untouched world S κ φ c picks t act c.code (code_by φ k then κ (φ t));
+          store = λ p d. refl;
+          sent = events.still_sent world S κ φ c picks t act u act_u C _;
+          got = events.still_got world S κ φ c picks t act u act_u C _;
+          box_sent = events.still_box_sent world S κ φ c picks t act u act_u C n _;
+          box_got = events.still_box_got world S κ φ c picks t act u act_u C n _;
+        };
+      })
+
+  abbrev pub after_take : List Name → List ℕ → Code → Reading
+  after_take xs ns k = record S {
+    code = changed same_name S.code u k;
+    pending = changed same_key S.pending (key t u C) ns;
+    facts = changed same_name S.facts u (forgotten (S.facts u) xs);
+  }
+
+  pub sound_take : (n : ℕ) (ns : List ℕ) (xs : List Name) (w : Who) (k : Code) → Unique S.pending → is_active (S.mode u) ≡ true → S.code u ≡ Recv C xs w ⨾ k → stands_by (S.mode t) t w ≡ true →
+      S.pending (key t u C) ≡ n ∷ ns → Sound world T S (seq.takes world.given u xs n t) (after_take xs ns k)
+  sound_take n ns xs w k once act_u is stands pends =
+      let act = stands_active (S.mode t) t w stands in
+      sound_going world T S (seq.takes world.given u xs n t) (after_take xs ns k) (λ κ φ c typed picks f.
+      let o = events.oldest_is world S κ φ c picks t act u act_u C n ns f once pends in
+      let K = code_by φ k then κ (φ u) in
+      let code_is : c.code (φ u) ≡ Recv C xs (who_by φ w) ⨾ K = events.own_code world S κ φ c picks u act_u f ∙ ap (λ z. code_by φ z then κ (φ u)) is in
+      let front : payload_at (c.mail (queue (φ t) (φ u) C)) 0 ≡ Some o.0 = ap (λ z. payload_at z 0) o.2 in record {
+        to = record {
+          code = changed same_process c.code (φ u) K;
+          store = stored c.store (φ u) xs o.0;
+          mail = events.taken_mail world S κ φ c picks t act u act_u C n ns;
+          box = events.taken_box world S κ φ c picks t act u act_u C n ns;
+        };
+        leads =
+            event_leads world c (φ u) (Recv C xs (who_by φ w) ⨾ K)
+            record { next = K; variables = xs; values = o.0; mail = taken (queue (φ t) (φ u) C) 0 } (events.taken_box world S κ φ c picks t act u act_u C n ns) code_is
+            (takes_oldest world c (φ u) (φ t) C xs (who_by φ w) K o.0 (partner_is S.mode φ t (S.mode t) w picks refl stands) front);
+        does = (o.0, o.3, T.finds c (φ u) (φ t) C xs (who_by φ w) K o.0 typed code_is front, refl);
+        alone = λ m r.
+            let v = same_Some o.0 r.0 (sym o.3 ∙ r.1) in
+            ap (λ z. record { store = stored c.store (φ u) xs z; box = with_box n (φ t) (φ u) None c.box }) v ∙ sym r.3;
+        fits = record {
+          sets = f.sets;
+          code = events.fits_code world S κ φ c picks u act_u f k;
+          mail = events.taken_fits world S κ φ c picks t act u act_u C n ns f once pends;
+          empty = events.taken_empty world S κ φ c picks t act u act_u C n ns f once pends;
+          facts = events.fits_facts world S κ φ c picks u act_u f (with_variables (c.store (φ u)) xs o.0) (forgotten (S.facts u) xs)
+              (agrees_forgotten (c.store (φ u)) (S.facts u) xs o.0 (events.own_facts world S κ φ c picks u act_u f));
+        };
+        still = record {
+          code = events.untouched world S κ φ c picks u act_u c.code K;
+          store = events.untouched world S κ φ c picks u act_u c.store (with_variables (c.store (φ u)) xs o.0);
+          sent = events.still_sent world S κ φ c picks t act u act_u C _;
+          got = events.still_got world S κ φ c picks t act u act_u C _;
+          box_sent = events.still_box_sent world S κ φ c picks t act u act_u C n _;
+          box_got = events.still_box_got world S κ φ c picks t act u act_u C n _;
+        };
+      })

@@ -1,0 +1,100 @@
+-- A pass is sound: a send, and at once its receive.
+use Rattle.std.proofs.Common.{◌≡◌, ℕ, Bool, true, false, List, [], ◌∷◌, ◌++◌, map, Option, Some, None, refl, sym, ap, ◌∙◌, subst}
+use Rattle.std.specs.Prelude.{if◌then◌else◌}
+use Rattle.brisk_values.specs.declared.value.Pid.{Pid}
+use Rattle.brisk_values.specs.declared.value.Value.{Value}
+use Rattle.brisk_values.specs.Functions.{changed}
+use Rattle.brisk_values.specs.Names.{Name, same_name, same_process}
+use Rattle.brisk_values.proofs.Changes.{exact_name, changed_again, changed-same}
+use Rattle.brisk_syntax.specs.declared.tree.Who.{Who}
+use Rattle.brisk_syntax.specs.Stores.{stored, with_variables}
+use Rattle.brisk_syntax.specs.Syntax.{Expression, Send, Recv, Code, ◌⨾◌, ◌then◌}
+use Rattle.brisk_syntax.specs.Value.{value_of}
+use Rattle.brisk_seq.specs.Sequential.{Focus}
+use Rattle.brisk_async.specs.Machine.{Mail, Payload, Queue, same_queue, queue, payload_at, appended, taken, changed_mail}
+use Rattle.brisk_async.proofs.Queues.{queue_laws, exact_queue}
+use Rattle.brisk_facts.specs.Learning.{fold}
+use Rattle.brisk_facts.proofs.Folding.{fold_value}
+use Rattle.brisk_state.specs.Symbolic.{key}
+use Rattle.brisk_loops.specs.Does as seq
+use Rattle.brisk_loops.proofs.Agree.{agrees_with}
+use Rattle.brisk_loops.proofs.Basic.{partner_is, takes_oldest}
+use Rattle.brisk_loops.proofs.Events as events
+use Rattle.brisk_loops.proofs.Events.{later}
+use Rattle.brisk_loops.proofs.Fits.{World, Conf, Picks, Fits}
+use Rattle.brisk_loops.proofs.Leads.{Leads, then_leads, event_leads, quiet_leads, unchanged_at}
+use Rattle.brisk_loops.proofs.Readings.{Reading, is_active, who_by, code_by, stands_by, facts_with}
+use Rattle.brisk_loops.proofs.Sound.{Typing, Sound, sound_going}
+
+pub none_left : (l : List Payload) → map {B = Option Payload} Some l ≡ [] → l ≡ []
+none_left [] e = refl
+none_left (m ∷ ms) e = cc
+
+mail_back : (mail : Mail) (q : Queue) (m : Payload) → mail q ≡ [] → changed_mail (taken q 0) (changed_mail (appended q m) mail) ≡ mail
+mail_back mail q m e =
+    changed_again same_queue mail q (mail q ++ m ∷ []) (later (changed same_queue mail q (mail q ++ m ∷ []) q))
+    ∙ unchanged_at same_queue exact_queue mail q (later (changed same_queue mail q (mail q ++ m ∷ []) q)) (ap later (changed-same queue_laws mail q (mail q ++ m ∷ [])) ∙ ap (λ z. later (z ++ m ∷ [])) e ∙ sym e)
+
+module _ (world : World) (T : Typing world) (S : Reading) (t u : Name) (C : Name) where
+  abbrev sent : Code → Reading
+  sent k = record S { code = changed same_name S.code t k }
+
+  abbrev pub after_pass : List Name → List Expression → Code → Code → Reading
+  after_pass xs es k k' = record S {
+    code = changed same_name (changed same_name S.code t k) u k';
+    facts = changed same_name S.facts u (facts_with (S.facts u) xs (map (fold (S.facts t)) es));
+  }
+
+  pub sound_pass : (es : List Expression) (w : Who) (k : Code) (xs : List Name) (w' : Who) (k' : Code) → is_active (S.mode t) ≡ true → is_active (S.mode u) ≡ true →
+      S.code t ≡ Send C es w ⨾ k → stands_by (S.mode u) u w ≡ true → S.code u ≡ Recv C xs w' ⨾ k' → stands_by (S.mode t) t w' ≡ true → S.pending (key t u C) ≡ [] →
+      Sound world T S (seq.passes world.given u xs t es) (after_pass xs es k k')
+  sound_pass es w k xs w' k' act act_u is stands is' stands' empty =
+      sound_going world T S (seq.passes world.given u xs t es) (after_pass xs es k k') (λ κ φ c typed picks f.
+      let vs = map (value_of world.given.sizes (c.store (φ t))) es in
+      let Q = queue (φ t) (φ u) C in
+      let K = code_by φ k then κ (φ t) in let K' = code_by φ k' then κ (φ u) in
+      let S1 = sent k in
+      let c1 : Conf = record { code = changed same_process c.code (φ t) K; store = c.store; mail = c.mail; box = c.box } in
+      let c2 : Conf = record { code = changed same_process c.code (φ t) K; store = c.store; mail = changed_mail (appended Q vs) c.mail; box = c.box } in
+      let f1 : Fits world S1 κ φ c1 = record { code = events.fits_code world S κ φ c picks t act f k; mail = f.mail; empty = f.empty; facts = f.facts; sets = f.sets } in
+      let no_mail : c.mail Q ≡ [] = none_left (c.mail Q) (sym (events.own_mail world S κ φ c picks t act u act_u C f) ∙ ap (map (λ n. c.box n (φ t) (φ u))) empty) in
+      let first : Leads world c c2 =
+      quiet_leads world c (φ t) (Send C es (who_by φ w) ⨾ K) K (appended Q vs) c.box (events.own_code world S κ φ c picks t act f ∙ ap (λ z. code_by φ z then κ (φ t)) is)
+      (λ i. Some record { next = K; variables = []; values = []; mail = appended (queue (φ t) (partner_is S.mode φ u (S.mode u) w picks refl stands i) C) vs }) in
+      let still_there : S1.code u ≡ Recv C xs w' ⨾ k' = ap (λ b. if b then k else S.code u) apart ∙ is' in
+      let code_is : c2.code (φ u) ≡ Recv C xs (who_by φ w') ⨾ K' = events.own_code world S1 κ φ c1 picks u act_u f1 ∙ ap (λ z. code_by φ z then κ (φ u)) still_there in
+      let front : payload_at (c2.mail Q) 0 ≡ Some vs = ap (λ z. payload_at z 0) (changed-same queue_laws c.mail Q (c.mail Q ++ vs ∷ [])) ∙ ap (λ z. payload_at (z ++ vs ∷ []) 0) no_mail in
+      let c3 : Conf = record { code = changed same_process c1.code (φ u) K'; store = stored c.store (φ u) xs vs; mail = c.mail; box = c.box } in
+      let second : Leads world c2 c3 =
+      subst (λ (z : Mail). Leads world c2 record { code = changed same_process c1.code (φ u) K'; store = stored c.store (φ u) xs vs; mail = z; box = c.box }) (mail_back c.mail Q vs no_mail)
+      (event_leads world c2 (φ u) (Recv C xs (who_by φ w') ⨾ K') record { next = K'; variables = xs; values = vs; mail = taken Q 0 } c.box code_is
+      (takes_oldest world c2 (φ u) (φ t) C xs (who_by φ w') K' vs (partner_is S.mode φ t (S.mode t) w' picks refl stands') front)) in record {
+        to = c3;
+        leads = then_leads world c c2 c3 first second;
+        does = refl;
+        alone = λ m r. sym r;
+        fits = record {
+          sets = f.sets;
+          code = events.fits_code world S1 κ φ c1 picks u act_u f1 k';
+          mail = f.mail;
+          empty = f.empty;
+          facts = events.fits_facts world S1 κ φ c1 picks u act_u f1 (with_variables (c.store (φ u)) xs vs) (facts_with (S.facts u) xs (map (fold (S.facts t)) es))
+              (agrees_with (c.store (φ u)) (S.facts u) xs (value_of world.given.sizes (c.store (φ t))) (fold (S.facts t)) es (events.own_facts world S κ φ c picks u act_u f)
+              (fold_value world.given.sizes (c.store (φ t)) (S.facts t) (events.own_facts world S κ φ c picks t act f)));
+        };
+        still = record {
+          code = λ p d. events.untouched world S1 κ φ c1 picks u act_u c1.code K' p d ∙ events.untouched world S κ φ c picks t act c.code K p d;
+          store = events.untouched world S κ φ c picks u act_u c.store (with_variables (c.store (φ u)) xs vs);
+          sent = λ p q d C. refl;
+          got = λ p q d C. refl;
+          box_sent = λ p q d n. refl;
+          box_got = λ p q d n. refl;
+        };
+      })
+    where
+      apart : same_name t u ≡ false
+      apart =
+          elim (same_name t u) as (λ b. same_name t u ≡ b → b ≡ false) [
+            | true ↦ λ e. let s = ap S.code (exact_name t u e) in cc
+            | false ↦ λ e. refl
+          ] refl

@@ -1,0 +1,47 @@
+-- What it is for steps of a derivation to be sound.
+use Rattle.std.proofs.Common.{◌≡◌, ℕ, true, List, Some, None}
+use Rattle.brisk_values.specs.declared.value.Pid.{Pid}
+use Rattle.brisk_values.specs.declared.value.Value.{Value}
+use Rattle.brisk_values.specs.Names.{Name}
+use Rattle.brisk_syntax.specs.declared.tree.Who.{Who}
+use Rattle.brisk_syntax.specs.Syntax.{Recv, Code, ◌⨾◌}
+use Rattle.brisk_seq.specs.Sequential.{Focus, Given, are_of_kinds}
+use Rattle.brisk_async.specs.declared.event.Event.{Event}
+use Rattle.brisk_async.specs.Machine.{State, queue, payload_at, run, IsTerminal}
+use Rattle.brisk_loops.specs.Does.{Mem, Does}
+use Rattle.brisk_loops.proofs.Fits.{World, Conf, mem, Picks, Fits, Still}
+use Rattle.brisk_loops.proofs.Leads.{state, Rest, Leads}
+use Rattle.brisk_loops.proofs.Readings.{Reading}
+
+-- what holds of every state of a well-typed program
+pub record Typing (world : World) : Type 1 where
+  pub IsTyped : Conf → Type 0
+  pub runs : (c d : Conf) (es : List Event) → IsTyped c → run (state world c) es ≡ Some (state world d) → IsTyped d
+  pub finds : (c : Conf) (p q : Pid) (C : Name) (xs : List Name) (u : Who) (k : Code) (m : List Value) → IsTyped c → c.code p ≡ Recv C xs u ⨾ k → payload_at (c.mail (queue q p C)) 0 ≡ Some m → are_of_kinds (world.given.kind p.role) xs m ≡ true
+
+module _ (world : World) (T : Typing world) where
+  pub record Arrives (S S' : Reading) (κ : Pid → Code) (φ : Focus) (c d : Conf) (t : List Event) : Type 0 where
+    pub runs : run (state world c) t ≡ Some (state world d)
+    pub fits : Fits world S' κ φ d
+    pub still : Still world S.mode φ c d
+
+  pub record Sound (S : Reading) (R : Does) (S' : Reading) : Type 0 where
+    pub there : (κ : Pid → Code) (φ : Focus) (c : Conf) → T.IsTyped c → Picks S.mode φ → Fits world S κ φ c → (m : Mem) → R φ (mem c) m →
+        (d : Conf) × (mem d ≡ m) × (t : List Event) × Arrives S S' κ φ c d t
+    pub back : (κ : Pid → Code) (φ : Focus) (c : Conf) → T.IsTyped c → Picks S.mode φ → Fits world S κ φ c → (s : List Event) (z : State) → run (state world c) s ≡ Some z → IsTerminal z →
+        (d : Conf) × R φ (mem c) (mem d) × (t : List Event) × Arrives S S' κ φ c d t × Rest world d t s z
+
+  -- where there is one way to go on
+  pub record Goes (S : Reading) (R : Does) (S' : Reading) (κ : Pid → Code) (φ : Focus) (c : Conf) : Type 0 where
+    pub to : Conf
+    pub leads : Leads world c to
+    pub does : R φ (mem c) (mem to)
+    pub alone : (m : Mem) → R φ (mem c) m → mem to ≡ m
+    pub fits : Fits world S' κ φ to
+    pub still : Still world S.mode φ c to
+
+  pub sound_going : (S : Reading) (R : Does) (S' : Reading) → ((κ : Pid → Code) (φ : Focus) (c : Conf) → T.IsTyped c → Picks S.mode φ → Fits world S κ φ c → Goes S R S' κ φ c) → Sound S R S'
+  sound_going S R S' h = record {
+    there = λ κ φ c y p f m r. let g = h κ φ c y p f in (g.to, g.alone m r, g.leads.by, record { runs = g.leads.runs; fits = g.fits; still = g.still });
+    back = λ κ φ c y p f s z r end. let g = h κ φ c y p f in (g.to, g.does, g.leads.by, record { runs = g.leads.runs; fits = g.fits; still = g.still }, g.leads.first s z r end);
+  }

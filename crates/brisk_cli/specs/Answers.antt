@@ -14,6 +14,10 @@ use Rattle.brisk_parse.specs.Answers.{Read, IsAnswer}
 use Rattle.brisk_parse.specs.Declarations.{program}
 use Rattle.brisk_parse.specs.Limits.{source}
 use Rattle.brisk_print.specs.Layout.{sequential}
+use Rattle.brisk_types.specs.Declarations.{failures}
+use Rattle.brisk_types.specs.Failures.{IsChecked}
+use Rattle.brisk_types.specs.declared.fault.TypeFault.{TypeFault}
+use Rattle.brisk_types.specs.declared.fault.TypeFault.TheVariants as types
 use Rattle.brisk_syntax.specs.declared.program.Program.{Program}
 use Rattle.brisk_seq.specs.declared.tree.SeqProgram.{SeqProgram}
 use Rattle.brisk_cli.specs.declared.status.Status.{Status}
@@ -63,6 +67,16 @@ parse_text ts end (parse.TooDeep k) = source_text (codes "TooDeep") (byte_of ts 
 parse_text ts end (parse.TooMany k) = source_text (codes "TooMany") (byte_of ts end k)
 parse_text ts end parse.NoMemory = []
 
+abbrev pub type_text : List Placed → ℕ → TypeFault → Text
+type_text ts end (types.Unknown k) = source_text (codes "Unknown") (byte_of ts end k)
+type_text ts end (types.Twice k) = source_text (codes "Twice") (byte_of ts end k)
+type_text ts end (types.NotASet k) = source_text (codes "NotASet") (byte_of ts end k)
+type_text ts end (types.NotSingle k) = source_text (codes "NotSingle") (byte_of ts end k)
+type_text ts end (types.SelfPartner k) = source_text (codes "SelfPartner") (byte_of ts end k)
+type_text ts end (types.WrongCount k) = source_text (codes "WrongCount") (byte_of ts end k)
+type_text ts end (types.WrongKind k) = source_text (codes "WrongKind") (byte_of ts end k)
+type_text ts end types.NoMemory = []
+
 -- ---- answers
 
 -- the answer for a program of the fragment: its sequential program, or that it has none
@@ -71,14 +85,26 @@ OfFragment P Done text = (Q : SeqProgram) × Sequenced P Q × (text ≡ sequenti
 OfFragment P Refused text = IsStuck P.roles × (text ≡ codes "not sequenced\n")
 OfFragment P status text = ⊥
 
--- the answer for a program
-abbrev pub OfProgram : Bool → Program → Status → Text → Type 0
-OfProgram true P status text = OfFragment P status text
-OfProgram false P status text = (status ≡ BadInput) × (text ≡ codes "source NotInFragment\n")
+-- the answer for a well-typed program
+abbrev pub OfWellTyped : Bool → Program → Status → Text → Type 0
+OfWellTyped true P status text = OfFragment P status text
+OfWellTyped false P status text = (status ≡ BadInput) × (text ≡ codes "source NotInFragment\n")
+
+-- the answer for how a program is typed
+abbrev pub OfTyping : List Placed → ℕ → Program → Result (Unit {0}) TypeFault → Status → Text → Type 0
+OfTyping ts end P (Ok typed) status text = OfWellTyped (in_fragment P) P status text
+OfTyping ts end P (Err types.NoMemory) status text = ⊥
+OfTyping ts end P (Err fault) status text = (status ≡ BadInput) × (text ≡ type_text ts end fault)
+
+-- the answer for a program with these tokens: it is well typed, or its first failure is told
+pub record OfProgram (ts : List Placed) (end : ℕ) (P : Program) (status : Status) (text : Text) : Type 0 where
+  pub typing : Result (Unit {0}) TypeFault
+  pub checked : IsChecked (failures P) typing
+  pub answered : OfTyping ts end P typing status text
 
 -- the answer for what tokens are read as
 abbrev pub OfReading : List Placed → ℕ → Result Program ParseFault → Status → Text → Type 0
-OfReading ts end (Ok P) status text = OfProgram (in_fragment P) P status text
+OfReading ts end (Ok P) status text = OfProgram ts end P status text
 OfReading ts end (Err parse.NoMemory) status text = ⊥
 OfReading ts end (Err fault) status text = (status ≡ BadInput) × (text ≡ parse_text ts end fault)
 

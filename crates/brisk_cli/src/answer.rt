@@ -1,7 +1,8 @@
 //! What is answered, before it is written.
-ghost use Rattle.std.specs.Prelude.{◌≡◌, ◌≤◌, ◌++◌, codes, length, IfOk, IsTrue};
+ghost use Rattle.std.specs.Prelude.{◌≡◌, ◌≤◌, ◌<◌, ◌^◌, ◌++◌, codes, length, IfOk, IsTrue};
 ghost use Rattle.std.specs.Fmt.{decimal};
-ghost use Rattle.brisk_cli.specs.Answers.{OfSource, OfCut, OfFragment, byte_of, file_text, lex_text, parse_text, source_text};
+ghost use Rattle.brisk_cli.specs.Answers.{OfSource, OfCut, OfFragment, OfProgram, byte_of, file_text, lex_text, parse_text, source_text, type_text};
+ghost use Rattle.brisk_syntax.specs.Tokens.{program_tokens};
 
 use crate::fragment::in_fragment;
 use crate::rewriting::rewrite;
@@ -10,6 +11,7 @@ use brisk_lex::{LexFault, Placed, tokens};
 use brisk_parse::{ParseFault, program};
 use brisk_print::print_seq;
 use brisk_syntax::Program;
+use brisk_types::{TypeFault, check};
 use brisk_values::NoMemory;
 use std::alloc::Global;
 
@@ -83,6 +85,26 @@ fn parse_line(
     }
 }
 
+fn type_line(
+    alloc: Global,
+    tokens: &[Placed],
+    end: usize,
+    fault: TypeFault,
+) -> Result<Vec<u8>, NoMemory>
+    ensures { IfOk result (λ v. v.items ≡ type_text tokens.now end fault) }
+{
+    match fault {
+        TypeFault::Unknown(k) => source_line(alloc, "Unknown", byte_at(tokens, end, k)),
+        TypeFault::Twice(k) => source_line(alloc, "Twice", byte_at(tokens, end, k)),
+        TypeFault::NotASet(k) => source_line(alloc, "NotASet", byte_at(tokens, end, k)),
+        TypeFault::NotSingle(k) => source_line(alloc, "NotSingle", byte_at(tokens, end, k)),
+        TypeFault::SelfPartner(k) => source_line(alloc, "SelfPartner", byte_at(tokens, end, k)),
+        TypeFault::WrongCount(k) => source_line(alloc, "WrongCount", byte_at(tokens, end, k)),
+        TypeFault::WrongKind(k) => source_line(alloc, "WrongKind", byte_at(tokens, end, k)),
+        TypeFault::NoMemory => Err(NoMemory),
+    }
+}
+
 // The sequential program of a program of the fragment, or that it has none.
 fn rewritten(alloc: Global, program: &Program) -> Result<Answer, NoMemory>
     ensures { IfOk result (λ a. OfFragment program.now a.status a.text.items) }
@@ -94,6 +116,31 @@ fn rewritten(alloc: Global, program: &Program) -> Result<Answer, NoMemory>
             text: print_seq(alloc, &sequential)?,
         }),
     }
+}
+
+// What is answered for a program, of which these are the tokens.
+fn of_program(
+    alloc: Global,
+    tokens: &[Placed],
+    end: usize,
+    program: &Program,
+) -> Result<Answer, NoMemory>
+    requires { program_tokens program.now < 2 ^ 32 }
+    ensures { IfOk result (λ a. OfProgram tokens.now end program.now a.status a.text.items) }
+{
+    let status = Status::BadInput;
+    match check(alloc, program) {
+        Ok(()) => {}
+        Err(TypeFault::NoMemory) => return Err(NoMemory),
+        Err(fault) => {
+            let text = type_line(alloc, tokens, end, fault)?;
+            return Ok(Answer { status, text });
+        }
+    }
+    if !in_fragment(program) {
+        return Answer::new(alloc, status, b"source NotInFragment\n");
+    }
+    rewritten(alloc, program)
 }
 
 /// What is answered for a source.
@@ -118,8 +165,5 @@ pub fn of_source(alloc: Global, source: &[u8]) -> Result<Answer, NoMemory>
             return Ok(Answer { status, text });
         }
     };
-    if !in_fragment(alloc, &program)? {
-        return Answer::new(alloc, status, b"source NotInFragment\n");
-    }
-    rewritten(alloc, &program)
+    of_program(alloc, &tokens, source.len(), &program)
 }

@@ -83,19 +83,52 @@ fn each_source_has_its_answer(rt: HostRuntime) -> Result<(), Fail> {
         ),
         ("one A { x := ; $", Status::BadInput, "source BadChar 15\n"),
         ("one A {", Status::BadInput, "source SyntaxFault 7\n"),
+        ("one A { x := 1; }", Status::BadInput, "source Unknown 8\n"),
         (
-            "one A { x := 1; }",
+            "channel Flag(bool); one A { send Flag(3) to B; } one B { var f : bool = true; recv Flag(f) from A; }",
             Status::BadInput,
-            "source NotInFragment\n",
+            "source WrongKind 38\n",
         ),
         (
-            "one A { var b : bool = true; }",
+            "one A { while true { } }",
             Status::BadInput,
             "source NotInFragment\n",
         ),
     ] {
         let (answer, written) = served(alloc, "rewrite F", source.as_bytes())?;
         assert_eq!(rt; answer, status, "of {source}");
+        assert_eq!(rt; written.as_slice(), text.as_bytes(), "of {source}");
+    }
+    Ok(())
+}
+
+#[test]
+fn a_typing_fault_is_told_at_its_byte(rt: HostRuntime) -> Result<(), Fail> {
+    for (source, text) in [
+        (
+            "one A { var x : int = 0; var x : int = 0; }",
+            "source Twice 29\n",
+        ),
+        ("one A { repeat B { } } one B { }", "source NotASet 15\n"),
+        (
+            "channel T(); one A { send T() to Ws; } many Ws { }",
+            "source NotSingle 33\n",
+        ),
+        (
+            "channel T(); one A { send T() to A; }",
+            "source SelfPartner 33\n",
+        ),
+        (
+            "channel T(int); one A { send T() to B; } one B { }",
+            "source WrongCount 29\n",
+        ),
+        (
+            "enum V { No } one A { var x : V = V.No; x := x == x; }",
+            "source WrongKind 45\n",
+        ),
+    ] {
+        let (answer, written) = served(rt.alloc(), "rewrite F", source.as_bytes())?;
+        assert_eq!(rt; answer, Status::BadInput, "of {source}");
         assert_eq!(rt; written.as_slice(), text.as_bytes(), "of {source}");
     }
     Ok(())

@@ -3,7 +3,6 @@ use Rattle.std.proofs.Common.{◌≡◌, ℕ, true, false, List, [], ◌∷◌, 
 use Rattle.std.specs.Prelude.{option_and_then}
 use Rattle.std.proofs.lemmas.Option.{same_Some}
 use Rattle.brisk_values.specs.declared.value.Pid.{Pid}
-use Rattle.brisk_values.specs.declared.value.Value.{Value}
 use Rattle.brisk_values.specs.Functions.{changed}
 use Rattle.brisk_values.specs.Names.{Name, same_name, same_process, single}
 use Rattle.brisk_values.proofs.Changes.{exact_name}
@@ -23,7 +22,7 @@ use Rattle.brisk_loops.specs.Does as seq
 use Rattle.brisk_loops.proofs.Agree.{agrees_with, agrees_forgotten}
 use Rattle.brisk_loops.proofs.Events as events
 use Rattle.brisk_loops.proofs.Events.{Unique}
-use Rattle.brisk_loops.proofs.Fits.{World, Conf, Picks, Fits, active_live}
+use Rattle.brisk_loops.proofs.Fits.{World, Conf, Picks, active_live}
 use Rattle.brisk_loops.proofs.Leads.{state, event_leads, quiet_leads}
 use Rattle.brisk_loops.proofs.Readings.{Reading, is_active, has, who_by, code_by, stands_by, facts_with, forgotten}
 use Rattle.brisk_loops.proofs.Sound.{Typing, Sound, sound_going}

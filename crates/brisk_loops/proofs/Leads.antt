@@ -1,10 +1,9 @@
 -- Configurations through which every schedule to a terminal state can be made to pass.
-use Rattle.std.proofs.Common.{◌≡◌, ℕ, ◌+◌, true, false, List, [], ◌∷◌, ◌++◌, Option, Some, None, refl, sym, ap, ◌∙◌, arith, zero-add, Bool}
+use Rattle.std.proofs.Common.{◌≡◌, ◌+◌, true, false, List, [], ◌∷◌, ◌++◌, Some, None, refl, sym, ap, ◌∙◌, arith, zero-add, Bool}
 use Rattle.std.specs.Prelude.{option_map, option_and_then, if◌then◌else◌}
 use Rattle.brisk_values.specs.declared.value.Pid.{Pid}
-use Rattle.brisk_values.specs.declared.value.Value.{Value}
 use Rattle.brisk_values.specs.Functions.{changed}
-use Rattle.brisk_values.specs.Names.{Name, same_name, same_process}
+use Rattle.brisk_values.specs.Names.{same_process}
 use Rattle.brisk_values.proofs.Changes.{exact_process}
 use Rattle.brisk_syntax.specs.Syntax.{Code}
 use Rattle.brisk_seq.specs.Sequential.{Boxes}

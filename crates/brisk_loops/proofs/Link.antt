@@ -1,16 +1,14 @@
 -- What a sequential program can do is what its runs do, whatever the choices and however many turns.
 use Rattle.std.proofs.Common.{◌≡◌, ℕ, suc, zero, ◌+◌, ◌≤◌, Bool, true, false, List, [], ◌∷◌, ◌++◌, map, Option, Some, None, refl, sym, ap, ◌∙◌, subst, arith, inl, inr, append_assoc, append-nil, zero-add, add-zero, nat_eq}
-use Rattle.std.specs.Prelude.{if◌then◌else◌, ◌⊎◌, ◌&&◌, ◌↔◌, not, nat_lt, Result, Ok, Err}
+use Rattle.std.specs.Prelude.{if◌then◌else◌, ◌&&◌, not, nat_lt, Ok, Err}
 use Rattle.std.specs.List.{list_any}
 use Rattle.brisk_values.specs.declared.value.Kind.{Kind}
 use Rattle.brisk_values.specs.declared.value.Pid.{Pid}
 use Rattle.brisk_values.specs.declared.value.Value.{Value}
 use Rattle.brisk_values.specs.Names.{Name, single}
-use Rattle.brisk_syntax.specs.Instance.{Instance}
-use Rattle.brisk_syntax.specs.Stores.{Store, stored}
+use Rattle.brisk_syntax.specs.Stores.{stored}
 use Rattle.brisk_syntax.specs.Syntax.{Expression}
 use Rattle.brisk_syntax.specs.Value.{value_of}
-use Rattle.brisk_seq.specs.declared.tree.SeqProgram.{SeqProgram}
 use Rattle.brisk_seq.specs.Items.{Item, Pass, Fill, Take, If, While, For, ForAny, Pick, Repeat, Items, nothing, ◌⨟◌}
 use Rattle.brisk_seq.specs.Sequential as seq
 use Rattle.brisk_seq.specs.Sequential.{Ends, given_by, begin, Focus, Given, Run, Ended, Stop, Turns, BadBox, BadChoice, and_then, in_focus, with_box, are_of_kinds, choose, for_each, for_any, take_turn, while_true}

@@ -1,8 +1,6 @@
 -- A pass is sound: a send, and at once its receive.
-use Rattle.std.proofs.Common.{◌≡◌, ℕ, Bool, true, false, List, [], ◌∷◌, ◌++◌, map, Option, Some, None, refl, sym, ap, ◌∙◌, subst}
+use Rattle.std.proofs.Common.{◌≡◌, true, false, List, [], ◌∷◌, ◌++◌, map, Option, Some, refl, sym, ap, ◌∙◌, subst}
 use Rattle.std.specs.Prelude.{if◌then◌else◌}
-use Rattle.brisk_values.specs.declared.value.Pid.{Pid}
-use Rattle.brisk_values.specs.declared.value.Value.{Value}
 use Rattle.brisk_values.specs.Functions.{changed}
 use Rattle.brisk_values.specs.Names.{Name, same_name, same_process}
 use Rattle.brisk_values.proofs.Changes.{exact_name, changed_again, changed-same}
@@ -10,7 +8,6 @@ use Rattle.brisk_syntax.specs.declared.tree.Who.{Who}
 use Rattle.brisk_syntax.specs.Stores.{stored, with_variables}
 use Rattle.brisk_syntax.specs.Syntax.{Expression, Send, Recv, Code, ◌⨾◌, ◌then◌}
 use Rattle.brisk_syntax.specs.Value.{value_of}
-use Rattle.brisk_seq.specs.Sequential.{Focus}
 use Rattle.brisk_async.specs.Machine.{Mail, Payload, Queue, same_queue, queue, payload_at, appended, taken, changed_mail}
 use Rattle.brisk_async.proofs.Queues.{queue_laws, exact_queue}
 use Rattle.brisk_facts.specs.Learning.{fold}
@@ -21,7 +18,7 @@ use Rattle.brisk_loops.proofs.Agree.{agrees_with}
 use Rattle.brisk_loops.proofs.Basic.{partner_is, takes_oldest}
 use Rattle.brisk_loops.proofs.Events as events
 use Rattle.brisk_loops.proofs.Events.{later}
-use Rattle.brisk_loops.proofs.Fits.{World, Conf, Picks, Fits}
+use Rattle.brisk_loops.proofs.Fits.{World, Conf, Fits}
 use Rattle.brisk_loops.proofs.Leads.{Leads, then_leads, event_leads, quiet_leads, unchanged_at}
 use Rattle.brisk_loops.proofs.Readings.{Reading, is_active, who_by, code_by, stands_by, facts_with}
 use Rattle.brisk_loops.proofs.Sound.{Typing, Sound, sound_going}

@@ -1,23 +1,39 @@
 -- What it is for steps of a derivation to be sound.
-use Rattle.std.proofs.Common.{◌≡◌, ℕ, true, List, Some, None}
+use Rattle.std.proofs.Common.{◌≡◌, Bool, true, List, Option, Some, None}
 use Rattle.brisk_values.specs.declared.value.Pid.{Pid}
 use Rattle.brisk_values.specs.declared.value.Value.{Value}
-use Rattle.brisk_values.specs.Names.{Name}
+use Rattle.brisk_values.specs.Functions.{changed}
+use Rattle.brisk_values.specs.Names.{Name, same_process}
 use Rattle.brisk_syntax.specs.declared.tree.Who.{Who}
-use Rattle.brisk_syntax.specs.Syntax.{Recv, Code, ◌⨾◌}
-use Rattle.brisk_seq.specs.Sequential.{Focus, Given, are_of_kinds}
+use Rattle.brisk_syntax.specs.Stores.{is_true}
+use Rattle.brisk_syntax.specs.Syntax.{Expression, Statement, Recv, If, IfElse, While, Code, ◌⨾◌}
+use Rattle.brisk_syntax.specs.Value.{value_of}
+use Rattle.brisk_seq.specs.Sequential.{Focus, are_of_kinds}
 use Rattle.brisk_async.specs.declared.event.Event.{Event}
-use Rattle.brisk_async.specs.Machine.{State, queue, payload_at, run, IsTerminal}
+use Rattle.brisk_async.specs.Laws.{AnyReceive, any_code, named_code}
+use Rattle.brisk_async.specs.Machine.{State, is_member, queue, payload_at, run, IsTerminal}
+use Rattle.brisk_facts.specs.Laws.{Agrees}
 use Rattle.brisk_loops.specs.Does.{Mem, Does}
 use Rattle.brisk_loops.proofs.Fits.{World, Conf, mem, Picks, Fits, Still}
 use Rattle.brisk_loops.proofs.Leads.{state, Rest, Leads}
-use Rattle.brisk_loops.proofs.Readings.{Reading}
+use Rattle.brisk_loops.proofs.Readings.{Reading, Known, learnt}
+
+-- the guard of a statement
+abbrev pub guard_of : Statement → Option Expression
+guard_of (If e a) = Some e
+guard_of (IfElse e a b) = Some e
+guard_of (While e b) = Some e
+guard_of s = None
 
 -- what holds of every state of a well-typed program
 pub record Typing (world : World) : Type 1 where
   pub IsTyped : Conf → Type 0
   pub runs : (c d : Conf) (es : List Event) → IsTyped c → run (state world c) es ≡ Some (state world d) → IsTyped d
   pub finds : (c : Conf) (p q : Pid) (C : Name) (xs : List Name) (u : Who) (k : Code) (m : List Value) → IsTyped c → c.code p ≡ Recv C xs u ⨾ k → payload_at (c.mail (queue q p C)) 0 ≡ Some m → are_of_kinds (world.given.kind p.role) xs m ≡ true
+  pub learns : (c : Conf) (p : Pid) (s : Statement) (k : Code) (e : Expression) (f : Known) (b : Bool) → IsTyped c → c.code p ≡ s ⨾ k → guard_of s ≡ Some e →
+      Agrees (c.store p) f → is_true (value_of world.given.sizes (c.store p) e) ≡ b → Agrees (c.store p) (learnt f e b)
+  pub named : (c : Conf) (p : Pid) (a : AnyReceive) (w : Pid) → IsTyped c → c.code p ≡ any_code a → is_member world.given.sizes a.set w ≡ true →
+      IsTyped record c { code = changed same_process c.code p (named_code a w) }
 
 module _ (world : World) (T : Typing world) where
   pub record Arrives (S S' : Reading) (κ : Pid → Code) (φ : Focus) (c d : Conf) (t : List Event) : Type 0 where

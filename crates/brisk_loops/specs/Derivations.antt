@@ -1,11 +1,9 @@
 -- Derivations of the small programs that are valid, and tampered ones with what fails first.
 use Rattle.std.specs.Prelude.{◌≡◌, ℕ, zero, suc, List, [], ◌∷◌, Ok, Err}
 use Rattle.brisk_values.specs.Names.{Name, member}
-use Rattle.brisk_syntax.specs.declared.program.Program.{Program}
 use Rattle.brisk_seq.specs.Items.{Fill, nothing, ◌⨟◌}
 use Rattle.brisk_syntax.specs.Syntax.{Num}
 use Rattle.brisk_basic.specs.declared.rule.RuleFault.TheVariants.{NoThread, WrongHead, BoxInUse, NothingPending, AlreadyPending}
-use Rattle.brisk_derivtext.specs.declared.fault.SideFault.{SideFault}
 use Rattle.brisk_derivtext.specs.declared.fault.SideFault.TheVariants as side
 use Rattle.brisk_derivtext.specs.declared.steps.BasicStep.TheVariants.{Assign, Fill as FillStep, Pass, Take, Known}
 use Rattle.brisk_derivtext.specs.declared.steps.Fact.{Fact}
@@ -16,7 +14,7 @@ use Rattle.brisk_loops.specs.Derives.{Failure, Valid, Invalid, sequential}
 use Rattle.brisk_seq.specs.Sequential.{BadChoice}
 use Rattle.brisk_loops.specs.Examples.{of_one, of_member, taking_from, two_members, all_inputs}
 use Rattle.brisk_loops.specs.Unfolding.{unfolded}
-use Rattle.brisk_loops.specs.Samples.{A, B, M, Ws, T, v, x, last, k, t, collect, collect_in_order, two_messages, maybe_empty_server}
+use Rattle.brisk_loops.specs.Samples.{A, B, M, Ws, T, x, last, k, t, collect, collect_in_order, two_messages, maybe_empty_server}
 use Rattle.brisk_loops.specs.Protocols.{G, H, Ask, Reply, s, late_box, late_box_items, ask_all, ask_all_items, overtaking, unread, endless_sender, nested_for, one_sided, learnt_again, deep}
 
 -- steps by basic rules

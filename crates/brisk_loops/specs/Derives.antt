@@ -1,5 +1,5 @@
 -- What a derivation derives, or the first of its tests that fails, with the line at which this is told.
-use Rattle.std.specs.Prelude.{◌≡◌, ℕ, ◌+◌, Bool, not, List, [], ◌∷◌, map, Option, Some, None, Result, Ok, Err, if◌then◌else◌, nat_lt}
+use Rattle.std.specs.Prelude.{◌≡◌, ℕ, ◌+◌, List, [], ◌∷◌, map, Option, Some, None, Result, Ok, Err, if◌then◌else◌, nat_lt}
 use Rattle.brisk_values.specs.Names.{Name}
 use Rattle.brisk_syntax.specs.declared.program.Program.{Program}
 use Rattle.brisk_syntax.specs.Roles.{RoleText}
@@ -11,7 +11,7 @@ use Rattle.brisk_state.specs.Same.{same_code}
 use Rattle.brisk_state.specs.Symbolic.{Symbolic, initial}
 use Rattle.brisk_basic.specs.declared.rule.Basic.{Basic as BasicRule}
 use Rattle.brisk_basic.specs.declared.rule.Basic.TheVariants as rule
-use Rattle.brisk_basic.specs.Basic.{Applied, apply}
+use Rattle.brisk_basic.specs.Basic.{apply}
 use Rattle.brisk_basic.specs.Outcomes.{when, and_then, told_as}
 use Rattle.brisk_derivtext.specs.declared.fault.SideFault.TheVariants.{TooDeep, Unfinished}
 use Rattle.brisk_derivtext.specs.declared.steps.BasicStep.{BasicStep}

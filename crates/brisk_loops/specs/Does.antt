@@ -1,7 +1,6 @@
 -- What a sequential program does, as a relation: all that it can do, whatever the choices and however many turns.
-use Rattle.std.specs.Prelude.{◌≡◌, ◌⊎◌, ◌↔◌, ℕ, zero, suc, ◌+◌, Bool, true, false, List, [], ◌∷◌, map, Option, Some, None, nat_eq, nat_lt}
+use Rattle.std.specs.Prelude.{◌≡◌, ◌⊎◌, ◌↔◌, ℕ, zero, suc, ◌+◌, Bool, true, false, List, [], ◌∷◌, map, Some, None, nat_eq, nat_lt}
 use Rattle.std.specs.List.{list_any}
-use Rattle.brisk_values.specs.declared.value.Pid.{Pid}
 use Rattle.brisk_values.specs.declared.value.Value.{Value}
 use Rattle.brisk_values.specs.Names.{Name, single}
 use Rattle.brisk_syntax.specs.Instance.{Instance, start_store}

@@ -1,5 +1,5 @@
 -- The heads at which compound rules begin.
-use Rattle.std.specs.Prelude.{zero, Option, Some, None, option_and_then, if◌then◌else◌}
+use Rattle.std.specs.Prelude.{zero, Option, Some, None, if◌then◌else◌}
 use Rattle.brisk_values.specs.Names.{Name, same_name}
 use Rattle.brisk_syntax.specs.declared.tree.Who.TheVariants as who
 use Rattle.brisk_syntax.specs.Substitution.{code_with}

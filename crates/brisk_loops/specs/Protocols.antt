@@ -1,5 +1,5 @@
 -- Small programs with sequential forms and derivations.
-use Rattle.std.specs.Prelude.{codes, ℕ, zero, suc, false, true, List, [], ◌∷◌}
+use Rattle.std.specs.Prelude.{codes, ℕ, zero, suc, false, true, [], ◌∷◌}
 use Rattle.brisk_values.specs.declared.operation.Op2.TheVariants as op
 use Rattle.brisk_values.specs.declared.value.Kind.TheVariants as kind
 use Rattle.brisk_values.specs.Names.{Name}
@@ -8,13 +8,11 @@ use Rattle.brisk_syntax.specs.declared.program.Decl.{Decl}
 use Rattle.brisk_syntax.specs.declared.program.Decl.TheVariants as decl
 use Rattle.brisk_syntax.specs.declared.program.Program.{Program}
 use Rattle.brisk_syntax.specs.declared.tree.Who.TheVariants as who
-use Rattle.brisk_syntax.specs.Roles.{RoleText}
 use Rattle.brisk_syntax.specs.Syntax.{Num, Truth, Var, Bin, Assign, Send, Recv, RecvAny, If, IfElse, While, For, Repeat, Code, done, ◌⨾◌}
-use Rattle.brisk_seq.specs.declared.tree.SeqProgram.{SeqProgram}
 use Rattle.brisk_seq.specs.Items.{Items, Pass, Fill, Take, For as ForItem, ForAny, nothing, ◌⨟◌}
-use Rattle.brisk_loops.specs.Derives.{sequential}
-use Rattle.brisk_loops.specs.Samples.{A, B, M, Ws, T, n, v, w, x, k, one, many, strict, program, input, zero_at}
+use Rattle.brisk_loops.specs.Samples.{A, B, M, Ws, T, n, v, w, x, one, many, strict, program, input, zero_at}
 
+-- further names of roles, channels and variables
 abbrev pub G : Name
 G = codes "G"
 

@@ -3,15 +3,15 @@ use Rattle.std.specs.Prelude.{Bool, true, false, ◌&&◌, ◌||◌, not, List, 
 use Rattle.std.specs.List.{list_any, list_all}
 use Rattle.brisk_values.specs.Names.{Name, same_name}
 use Rattle.brisk_syntax.specs.declared.program.Program.{Program}
-use Rattle.brisk_syntax.specs.Syntax.{Expression, Code, done, ◌⨾◌}
+use Rattle.brisk_syntax.specs.Syntax.{Expression, Code, done}
 use Rattle.brisk_syntax.specs.Typing.{is_among}
 use Rattle.brisk_async.specs.Laws.{AnyReceive}
 use Rattle.brisk_seq.specs.Items.{Item, Items}
 use Rattle.brisk_seq.specs.Items as item
-use Rattle.brisk_facts.specs.Facts.{Place, Facts, facts_where, is_fact, common, joined}
+use Rattle.brisk_facts.specs.Facts.{Facts, facts_where, is_fact, common, joined}
 use Rattle.brisk_facts.specs.Learning.{learn}
 use Rattle.brisk_state.specs.declared.thread.Mode.{Mode}
-use Rattle.brisk_state.specs.declared.thread.Mode.TheVariants.{One, At, Each}
+use Rattle.brisk_state.specs.declared.thread.Mode.TheVariants.{At, Each}
 use Rattle.brisk_state.specs.declared.thread.Thread.{Thread}
 use Rattle.brisk_state.specs.Same.{same_code}
 use Rattle.brisk_state.specs.Symbolic.{Key, key, Symbolic, thread_named, code_at, with_code, with_mode, numbers_at, pending_where, same_pending, same_but_facts}
@@ -27,7 +27,7 @@ use Rattle.brisk_derivtext.specs.declared.fault.SideFault.TheVariants.{SetIsFocu
 use Rattle.brisk_derivtext.specs.declared.steps.Fact.{Fact}
 use Rattle.brisk_loops.specs.declared.why.Why.{Why}
 use Rattle.brisk_loops.specs.declared.why.Why.TheVariants.{Rule, Side}
-use Rattle.brisk_loops.specs.Heads.{Fork, fork_of, Guarded, while_of, Loop, repeat_of, for_of, any_of, gather_of, from_focus}
+use Rattle.brisk_loops.specs.Heads.{fork_of, while_of, Loop, repeat_of, for_of, any_of, gather_of, from_focus}
 
 -- what a rule gives, or the first of its tests that fails
 abbrev pub Outcome : Type 0 → Type 0

@@ -1,0 +1,5 @@
+pub mod Lists
+pub mod Indexes
+pub mod Firsts
+pub mod Whole
+pub mod Spelled

@@ -1,0 +1,10 @@
+use Rattle.std.proofs.Common.{◌≡◌, take, map}
+use Rattle.std.specs.Option.{is_some}
+use Rattle.brisk_values.specs.Names.{Name, same_name}
+use Rattle.brisk_types.specs.Indexes.{found, key, same_key, same_tag, tag_key}
+use Rattle.brisk_syntax.specs.Texts.{text_of}
+use Rattle.brisk_syntax.specs.Typing.{is_set}
+use Rattle.brisk_types.proofs.globals.set_index.Given as goal
+
+abbrev pub invariant-loop-role : goal.invariant-loop-role
+invariant-loop-role l = (n : Name) → is_some (found same_key l.index (key n)) ≡ is_set (map text_of (take l.role-index l.role-items)) n

@@ -1,0 +1,7 @@
+pub mod Failures
+pub mod Indexes
+pub mod Expressions
+pub mod Names
+pub mod Statements
+pub mod Declarations
+pub mod Laws

@@ -1,0 +1,19 @@
+//! Types programs: names, kinds and channels, with the token of the first failure.
+#![tactic(auto)]
+
+mod count;
+mod declarations;
+mod expressions;
+mod fault;
+mod globals;
+mod index;
+mod laws;
+mod messages;
+mod names;
+mod places;
+mod programs;
+mod statements;
+
+pub use fault::TypeFault;
+pub use laws::counted;
+pub use programs::check;

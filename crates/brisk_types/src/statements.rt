@@ -1,0 +1,159 @@
+//! Statements and code.
+ghost use Rattle.std.specs.Prelude.{◌≡◌, ◌+◌, ◌<◌, ◌^◌, ◌++◌, [], ◌∷◌, IfOk, OnOk};
+ghost use Rattle.brisk_syntax.specs.Statements.{code_of, statement_of};
+ghost use Rattle.brisk_syntax.specs.Tokens.{code_tokens, name_tokens, statement_tokens};
+ghost use Rattle.brisk_types.specs.Failures.{note_all};
+ghost use Rattle.brisk_types.specs.Names.{meaning_of};
+ghost use Rattle.brisk_types.specs.Statements as spec;
+
+use crate::count::{expressions_tokens, names_tokens};
+use crate::expressions::expression;
+use crate::fault::{First, Rule};
+use crate::messages::{channel_rule, values, variables, wanted_kinds};
+use crate::names::{Names, is_among};
+use brisk_syntax::{Block, Exprs, Names as List, Stmt, Who};
+use brisk_values::{Kind, Name, NoMemory};
+
+/// Notes that the new name at the token is taken, by a binder in scope, by a variable or by a global name.
+pub fn binder(names: &Names<'_>, binders: &[Name], name: Name, at: u32, first: &mut First)
+    ensures { first.new.failure ≡ note_all first.old.failure (spec.binder (meaning_of names.now) binders.now at name) }
+{
+    let taken = is_among(binders, &name) || names.kind_of_variable(name).is_some();
+    first.note_if(taken, Rule::Twice, at);
+    if let Some(place) = names.place(name) {
+        first.note(Rule::Twice, at.max(place));
+    }
+}
+
+// A binder at the token, and the set behind it.
+fn bound(names: &Names<'_>, binders: &[Name], v: Name, s: &Name, at: u32, first: &mut First)
+    requires { at + 2 < 2 ^ 32 }
+    ensures { first.new.failure ≡ note_all first.old.failure (spec.bound (meaning_of names.now) binders.now at v s.now) }
+{
+    binder(names, binders, v, at, first);
+    first.note_some(names.set_rule(s), at + 2);
+}
+
+// A channel, whose name follows the token, and the variables of what is received on it.
+fn received(names: &Names<'_>, channel: Name, vars: &List, at: u32, first: &mut First)
+    requires { at + name_tokens vars.now + 4 < 2 ^ 32 }
+    ensures { first.new.failure ≡ note_all first.old.failure (spec.received (meaning_of names.now) at channel vars.now) }
+{
+    let kinds = names.kinds_on(channel);
+    first.note_some(channel_rule(kinds, vars.items.len()), at + 1);
+    variables(names, &vars.items, wanted_kinds(kinds), at + 3, first);
+}
+
+impl Names<'_> {
+    #[cycle(code)]
+    fn statement(
+        &self,
+        binders: &mut Vec<Name>,
+        s: &Stmt,
+        at: u32,
+        first: &mut First,
+    ) -> Result<u32, NoMemory>
+        requires { at + statement_tokens (statement_of s.now) < 2 ^ 32 }
+        ensures next { IfOk result (λ next. next ≡ at + statement_tokens (statement_of s.now)) }
+        ensures noted { OnOk result (first.new.failure ≡ note_all first.old.failure (spec.statement (meaning_of self.now) binders.old.items at (statement_of s.now))) }
+        ensures binders { OnOk result (binders.new.items ≡ binders.old.items) }
+    {
+        match s {
+            Stmt::Assign(x, e) => {
+                let kind = self.kind_of_variable(*x);
+                first.note_if(kind.is_none(), Rule::Unknown, at);
+                Ok(expression(self, kind, e, at + 2, first) + 1)
+            }
+            Stmt::Send(channel, exprs, to) => {
+                let kinds = self.kinds_on(*channel);
+                first.note_some(channel_rule(kinds, exprs.items.len()), at + 1);
+                values(self, exprs, wanted_kinds(kinds), at + 3, first);
+                let end = at + 3 + expressions_tokens(exprs);
+                first.note_some(self.partner_rule(binders, to), end + 2);
+                Ok(end + 4)
+            }
+            Stmt::Recv(channel, vars, from) => {
+                received(self, *channel, vars, at, first);
+                let end = at + 3 + names_tokens(vars);
+                first.note_some(self.partner_rule(binders, from), end + 2);
+                Ok(end + 4)
+            }
+            Stmt::RecvAny(receive) => {
+                received(self, receive.channel, &receive.vars, at, first);
+                let end = at + 3 + names_tokens(&receive.vars);
+                self.each(
+                    binders,
+                    receive.binder,
+                    &receive.set,
+                    &receive.body,
+                    end + 3,
+                    first,
+                )
+            }
+            Stmt::If(e, then, otherwise) => {
+                let next = expression(self, Some(Kind::Bool), e, at + 1, first);
+                let next = self.code(binders, then, next + 1, first)? + 1;
+                match otherwise {
+                    None => Ok(next),
+                    Some(otherwise) => Ok(self.code(binders, otherwise, next + 2, first)? + 1),
+                }
+            }
+            Stmt::While(e, body) => {
+                let next = expression(self, Some(Kind::Bool), e, at + 1, first);
+                Ok(self.code(binders, body, next + 1, first)? + 1)
+            }
+            Stmt::For(each) => {
+                self.each(binders, each.binder, &each.set, &each.body, at + 1, first)
+            }
+            Stmt::Repeat(turns) => {
+                first.note_some(self.set_rule(&turns.set), at + 1);
+                Ok(self.code(binders, &turns.body, at + 3, first)? + 1)
+            }
+        }
+    }
+
+    // A binder at the token, its set, and the body in which it is in scope.
+    #[cycle(code)]
+    fn each(
+        &self,
+        binders: &mut Vec<Name>,
+        binder: Name,
+        set: &Name,
+        body: &Block,
+        at: u32,
+        first: &mut First,
+    ) -> Result<u32, NoMemory>
+        requires { at + 5 + code_tokens body.now < 2 ^ 32 }
+        ensures next { IfOk result (λ next. next ≡ at + 5 + code_tokens body.now) }
+        ensures noted { OnOk result (first.new.failure ≡ note_all (note_all first.old.failure (spec.bound (meaning_of self.now) binders.old.items at binder set.now)) (spec.code (meaning_of self.now) (binders.old.items ++ binder ∷ []) (at + 4) body.now)) }
+        ensures binders { OnOk result (binders.new.items ≡ binders.old.items) }
+    {
+        bound(self, binders, binder, set, at, first);
+        binders.push(binder)?;
+        let next = self.code(binders, body, at + 4, first)?;
+        binders.pop();
+        Ok(next + 1)
+    }
+
+    /// Notes what is wrong with code that begins at the token, where these binders are in scope. Answers the token
+    /// after it.
+    #[cycle(code)]
+    pub fn code(
+        &self,
+        binders: &mut Vec<Name>,
+        body: &Block,
+        at: u32,
+        first: &mut First,
+    ) -> Result<u32, NoMemory>
+        requires { at + code_tokens body.now < 2 ^ 32 }
+        ensures next { IfOk result (λ next. next ≡ at + code_tokens body.now) }
+        ensures noted { OnOk result (first.new.failure ≡ note_all first.old.failure (spec.code (meaning_of self.now) binders.old.items at body.now)) }
+        ensures binders { OnOk result (binders.new.items ≡ binders.old.items) }
+    {
+        let mut at = at;
+        for s in &body.items {
+            at = self.statement(binders, s, at, first)?;
+        }
+        Ok(at)
+    }
+}

@@ -7,3 +7,4 @@ pub mod Named
 pub mod Orders
 pub mod Queues
 pub mod Runs
+pub mod Senders

@@ -25,7 +25,7 @@ pub record FirstOf (p : Pid) (es : List Event) : Type 0 where
 one_more : (p : Pid) (f : Event) (es : List Event) → same_process p f.process ≡ false → count p es ≡ 0 → count p (f ∷ es) ≡ 0
 one_more p f es e h = ap (λ b. (if b then 1 else 0) + count p es) e ∙ ap (λ n. 0 + n) h
 
-not_first : (p : Pid) (f : Event) (es : List Event) → count p (f ∷ es) ≡ 0 → (same_process p f.process ≡ false) × (count p es ≡ 0)
+pub not_first : (p : Pid) (f : Event) (es : List Event) → count p (f ∷ es) ≡ 0 → (same_process p f.process ≡ false) × (count p es ≡ 0)
 not_first p f es h =
     elim (same_process p f.process) as (λ b. same_process p f.process ≡ b → (same_process p f.process ≡ false) × (count p es ≡ 0)) [
       | true ↦ λ e. absurd (let g = ap (λ b. (if b then 1 else 0) + count p es) (sym e) ∙ h in omega (arith, g))
@@ -33,7 +33,7 @@ not_first p f es h =
     ] refl
 
 -- a schedule has a first event of p, or none
-first_of : (p : Pid) (es : List Event) → FirstOf p es ⊎ (count p es ≡ 0)
+pub first_of : (p : Pid) (es : List Event) → FirstOf p es ⊎ (count p es ≡ 0)
 first_of p [] = inr refl
 first_of p (f ∷ es) =
     elim (same_process p f.process) as (λ b. same_process p f.process ≡ b → FirstOf p (f ∷ es) ⊎ (count p (f ∷ es) ≡ 0)) [
@@ -106,7 +106,7 @@ module _ (a : AnyReceive) (p : Pid) where
   has_sender : (s t : State) (place : Option ℕ) → s.code p ≡ any_code a → step s (from_named p place) ≡ Some t → ⊥
   has_sender s t place is h = let e = ap (λ k. option_map (after s p) (effect (seen_by s p) p k None place)) is in let g = sym h ∙ e in cc
 
-  has_none : (s : State) (w v : Pid) (place : Option ℕ) → step (named a p w s) (from_any p v place) ≡ None
+  pub has_none : (s : State) (w v : Pid) (place : Option ℕ) → step (named a p w s) (from_any p v place) ≡ None
   has_none s w v place = ap (λ k. option_map (after (named a p w s) p) (effect (seen_by s p) p k (Some v) place)) (changed-same process_laws s.code p (named_code a w))
 
   -- an event of another process leads from where the sender is named to where it is named
@@ -130,7 +130,7 @@ module _ (a : AnyReceive) (p : Pid) where
       ap (option_and_then (λ z. run z es)) (other_step f c.0 s w ∙ ap (option_map (named a p w)) b.1) ∙ other_run es c.1 b.0 t w b.2
 
   -- and from where it leads if the sender is named it leads if it isn't
-  other_back : (es : List Event) → count p es ≡ 0 → (s y : State) (w : Pid) → run (named a p w s) es ≡ Some y →
+  pub other_back : (es : List Event) → count p es ≡ 0 → (s y : State) (w : Pid) → run (named a p w s) es ≡ Some y →
       (t : State) × (run s es ≡ Some t) × (named a p w t ≡ y)
   other_back [] n s y w r = (s, refl, same_Some (named a p w s) y r)
   other_back (f ∷ es) n s y w r =

@@ -1,4 +1,4 @@
--- The basic rules are sound: where a rule applies, its statement and its events lead from what fits a state to what fits the next.
+-- What the basic rules do: where one applies, its tests, its statement and the next state as a reading.
 use Rattle.std.proofs.Common.{◌≡◌, ℕ, Bool, true, false, List, [], ◌∷◌, ◌++◌, map, Option, Some, None, refl, sym, ap, ◌∙◌, subst, cond, inl, inr}
 use Rattle.std.specs.Prelude.{◌⊎◌, if◌then◌else◌, ◌&&◌, not, Result, Ok, nat_le}
 use Rattle.std.specs.FinMap.{find}
@@ -26,19 +26,15 @@ use Rattle.brisk_basic.specs.declared.rule.RuleFault.{RuleFault}
 use Rattle.brisk_basic.specs.declared.rule.RuleFault.TheVariants.{BoxInUse}
 use Rattle.brisk_basic.specs.Basic.{Applied, apply, at_thread, sends, receives, assign, fill, pass, take, decided, known}
 use Rattle.brisk_basic.specs.Outcomes.{when}
-use Rattle.brisk_loops.specs.Does.{Does, does, stays}
 use Rattle.brisk_loops.specs.Rules.{mode_of}
-use Rattle.brisk_loops.proofs.Basic.{sound_assign, sound_fill, sound_take}
+use Rattle.brisk_loops.proofs.After.{goes_on, after_assign, after_fill, after_take, after_pass}
 use Rattle.brisk_loops.proofs.Control.{sides}
-use Rattle.brisk_loops.proofs.Events.{Unique, false_or}
-use Rattle.brisk_loops.proofs.Fits.{World}
-use Rattle.brisk_loops.proofs.Lookups.{one_value, some_values, no_values, numbers_with, modes_after, codes_after, moved, still_active}
-use Rattle.brisk_loops.proofs.Loops.{goes_on, sound_known_if, sound_known_while}
-use Rattle.brisk_loops.proofs.Pass.{sound_pass}
+use Rattle.brisk_loops.proofs.Events.{false_or}
+use Rattle.brisk_loops.proofs.Lookups.{one_value, some_values, no_values, numbers_with}
 use Rattle.brisk_loops.proofs.Readings.{Reading, reading, is_active, has, stands_by}
-use Rattle.brisk_loops.proofs.Sound.{Typing, Sound}
+use Rattle.brisk_loops.proofs.Threads.{names, modes_with_code, codes_with_code, names_with_code, Moved, moved}
 
-at_code : {A : Type 0} (o : Option Code) (go : Code → Result A RuleFault) (a : A) → at_thread o go ≡ Ok a → (c : Code) × (o ≡ Some c) × (go c ≡ Ok a)
+pub at_code : {A : Type 0} (o : Option Code) (go : Code → Result A RuleFault) (a : A) → at_thread o go ≡ Ok a → (c : Code) × (o ≡ Some c) × (go c ≡ Ok a)
 at_code None go a e = cc
 at_code (Some c) go a e = (c, refl, e)
 
@@ -59,7 +55,7 @@ by_mode At u (who.At s) = refl
 by_mode At u (who.Pid p) = refl
 by_mode Each u w = refl
 
-partner_by_mode : (ts : List Thread) (u : Name) (w : Who) → is_partner (partner_of (thread_named ts u)) w ≡ stands_by (mode_of (thread_named ts u)) u w
+pub partner_by_mode : (ts : List Thread) (u : Name) (w : Who) → is_partner (partner_of (thread_named ts u)) w ≡ stands_by (mode_of (thread_named ts u)) u w
 partner_by_mode [] u w = refl
 partner_by_mode (x ∷ xs) u w =
     elim (same_name u x.name) as (λ b. same_name u x.name ≡ b → is_partner (partner_of (if b then Some x else thread_named xs u)) w ≡ stands_by (mode_of (if b then Some x else thread_named xs u)) u w) [
@@ -154,131 +150,135 @@ known_ok S t (While e b ⨾ rest) r g =
     inr record { guard = e; body = b; rest = rest; stands = refl; value = d.0; folds = d.1; decides = d.2 }
 known_ok S t c r g = cc
 
--- what a rule's statement can do, and nothing where it has none
-abbrev pub does_statement : World → Option Item → Does
-does_statement world None = stays
-does_statement world (Some q) = does world.given q
+-- What a basic rule does: its tests, its statement, and the reading of the next state, whose threads have the same names.
+pub data Applies (S : Symbolic) (r : Applied) : Basic → Type 0 where
+  assigns : (t x : Name) (e : Expression) (k : Code) → is_active ((reading S).mode t) ≡ true → (reading S).code t ≡ Assign x e ⨾ k →
+      r.statement ≡ Some (item.Pass t (x ∷ []) t (e ∷ [])) → reading r.next ≡ after_assign (reading S) t x e k → names r.next.threads ≡ names S.threads → Applies S r (rule.Assign t)
+  fills : (t u C : Name) (n : ℕ) (es : List Expression) (w : Who) (k : Code) → is_active ((reading S).mode t) ≡ true → (reading S).code t ≡ Send C es w ⨾ k →
+      stands_by ((reading S).mode u) u w ≡ true → ((l : Key) → has n ((reading S).pending l) ≡ false) →
+      r.statement ≡ Some (item.Fill n t u es) → reading r.next ≡ after_fill (reading S) t u C n k → names r.next.threads ≡ names S.threads → Applies S r (rule.Fill t u C n)
+  takes : (t u C : Name) (n : ℕ) (ns : List ℕ) (xs : List Name) (w : Who) (k : Code) → is_active ((reading S).mode u) ≡ true → (reading S).code u ≡ Recv C xs w ⨾ k →
+      stands_by ((reading S).mode t) t w ≡ true → (reading S).pending (key t u C) ≡ n ∷ ns →
+      r.statement ≡ Some (item.Take u xs n t) → reading r.next ≡ after_take (reading S) t u C xs ns k → names r.next.threads ≡ names S.threads → Applies S r (rule.Take t u C)
+  passes : (t u C : Name) (es : List Expression) (w : Who) (k : Code) (xs : List Name) (w' : Who) (k' : Code) → is_active ((reading S).mode t) ≡ true → is_active ((reading S).mode u) ≡ true →
+      (reading S).code t ≡ Send C es w ⨾ k → stands_by ((reading S).mode u) u w ≡ true → (reading S).code u ≡ Recv C xs w' ⨾ k' → stands_by ((reading S).mode t) t w' ≡ true →
+      (reading S).pending (key t u C) ≡ [] →
+      r.statement ≡ Some (item.Pass u xs t es) → reading r.next ≡ after_pass (reading S) t u xs es k k' → names r.next.threads ≡ names S.threads → Applies S r (rule.Pass t u C)
+  knows_if : (t : Name) (s : Statement) (e : Expression) (a b rest : Code) (v : Value) → is_active ((reading S).mode t) ≡ true → (reading S).code t ≡ s ⨾ rest → sides s ≡ Some (e, a, b) →
+      fold ((reading S).facts t) e ≡ Some v →
+      r.statement ≡ None → reading r.next ≡ goes_on (reading S) t (if is_true v then a then rest else b then rest) → names r.next.threads ≡ names S.threads → Applies S r (rule.Known t)
+  knows_while : (t : Name) (e : Expression) (b rest : Code) (v : Value) → is_active ((reading S).mode t) ≡ true → (reading S).code t ≡ While e b ⨾ rest →
+      fold ((reading S).facts t) e ≡ Some v →
+      r.statement ≡ None → reading r.next ≡ goes_on (reading S) t (if is_true v then b then (reading S).code t else rest) → names r.next.threads ≡ names S.threads → Applies S r (rule.Known t)
 
-module _ (world : World) (T : Typing world) (S : Symbolic) where
-  abbrev pub IsSound : Applied → Type 0
-  IsSound r = Sound world T (reading S) (does_statement world r.statement) (reading r.next)
-
-  active : (t : Name) (c : Code) → code_at S t ≡ Some c → is_active ((reading S).mode t) ≡ true
-  active t c is = (moved (thread_named S.threads t) c is).0
-
-  stands_at : (t : Name) (c : Code) → code_at S t ≡ Some c → (reading S).code t ≡ c
-  stands_at t c is = (moved (thread_named S.threads t) c is).1
-
-  assign_sound : (t : Name) (c : Code) (r : Applied) → code_at S t ≡ Some c → assign S t c ≡ Ok r → IsSound r
-  assign_sound t c r is g =
-      let a = assign_ok S t c r g in
-      subst IsSound a.4
-      (subst (λ (Z : Reading). Sound world T (reading S) (does world.given (item.Pass t (a.0 ∷ []) t (a.1 ∷ []))) Z)
+module _ (S : Symbolic) where
+  assign_applies : (t : Name) (c : Code) (r : Applied) → code_at S t ≡ Some c → assign S t c ≡ Ok r → Applies S r (rule.Assign t)
+  assign_applies t c r is g =
+      let a = assign_ok S t c r g in let m = moved S.threads t c is in
+      subst (λ (z : Applied). Applies S z (rule.Assign t)) a.4
+      (assigns t a.0 a.1 a.2 m.active (m.stands ∙ a.3) refl
       (λ i. record {
-        mode = λ u. sym (modes_after t a.2 S.threads u) i;
-        code = λ u. sym (codes_after t a.2 c S.threads is u) i;
+        mode = modes_with_code t a.2 S.threads i;
+        code = codes_with_code t a.2 S.threads m.mode m.there i;
         pending = numbers_at S.pending;
-        facts = sym (one_value t a.0 (folded S.facts t a.1) S.facts) i;
+        facts = one_value t a.0 (folded S.facts t a.1) S.facts i;
       })
-      (sound_assign world T (reading S) t (active t c is) a.0 a.1 a.2 (stands_at t c is ∙ a.3)))
+      (names_with_code t a.2 S.threads))
 
-  fill_sound : (t u C : Name) (n : ℕ) (c : Code) (r : Applied) → code_at S t ≡ Some c → fill S t u C n (sends S u C c) ≡ Ok r → IsSound r
-  fill_sound t u C n c r is =
-      elim (sends S u C c) as (λ o. sends S u C c ≡ o → fill S t u C n o ≡ Ok r → IsSound r) [
+  fill_applies : (t u C : Name) (n : ℕ) (c : Code) (r : Applied) → code_at S t ≡ Some c → fill S t u C n (sends S u C c) ≡ Ok r → Applies S r (rule.Fill t u C n)
+  fill_applies t u C n c r is =
+      elim (sends S u C c) as (λ o. sends S u C c ≡ o → fill S t u C n o ≡ Ok r → Applies S r (rule.Fill t u C n)) [
         | None ↦ λ h g. cc
         | Some p ↦ λ h g.
-            let s = sends_to S u C c p h in
+            let s = sends_to S u C c p h in let m = moved S.threads t c is in
             let k = when_ok (nat_le 1 n && nat_le n 1000000 && not (is_in_use S.pending n)) BoxInUse _ r g in
             let free = both_true (nat_le 1 n && nat_le n 1000000) (not (is_in_use S.pending n)) k.0 in
-            subst IsSound (same_ok _ r k.1)
-            (subst (λ (Z : Reading). Sound world T (reading S) (does world.given (item.Fill n t u p.0)) Z)
+            subst (λ (z : Applied). Applies S z (rule.Fill t u C n)) (same_ok _ r k.1)
+            (fills t u C n p.0 s.0 p.1 m.active (m.stands ∙ s.1) s.2 (unused n S.pending (not_true (is_in_use S.pending n) free.1)) refl
             (λ i. record {
-              mode = λ v. sym (modes_after t p.1 S.threads v) i;
-              code = λ v. sym (codes_after t p.1 c S.threads is v) i;
-              pending = sym (numbers_with (key t u C) (numbers_at S.pending (key t u C) ++ n ∷ []) S.pending) i;
+              mode = modes_with_code t p.1 S.threads i;
+              code = codes_with_code t p.1 S.threads m.mode m.there i;
+              pending = numbers_with (key t u C) (numbers_at S.pending (key t u C) ++ n ∷ []) S.pending i;
               facts = fact S.facts;
             })
-            (sound_fill world T (reading S) t u C n p.0 s.0 p.1 (active t c is) (stands_at t c is ∙ s.1) s.2 (unused n S.pending (not_true (is_in_use S.pending n) free.1))))
+            (names_with_code t p.1 S.threads))
       ] refl
 
-  take_sound : (t u C : Name) (c : Code) (r : Applied) → Unique (numbers_at S.pending) → code_at S u ≡ Some c →
-      take S t u C (receives S t C c) (numbers_at S.pending (key t u C)) ≡ Ok r → IsSound r
-  take_sound t u C c r once is =
-      elim (receives S t C c) as (λ o. receives S t C c ≡ o → take S t u C o (numbers_at S.pending (key t u C)) ≡ Ok r → IsSound r) [
+  take_applies : (t u C : Name) (c : Code) (r : Applied) → code_at S u ≡ Some c → take S t u C (receives S t C c) (numbers_at S.pending (key t u C)) ≡ Ok r → Applies S r (rule.Take t u C)
+  take_applies t u C c r is =
+      elim (receives S t C c) as (λ o. receives S t C c ≡ o → take S t u C o (numbers_at S.pending (key t u C)) ≡ Ok r → Applies S r (rule.Take t u C)) [
         | None ↦ λ h g. cc
         | Some p ↦ λ h.
-            elim (numbers_at S.pending (key t u C)) as (λ l. numbers_at S.pending (key t u C) ≡ l → take S t u C (Some p) l ≡ Ok r → IsSound r) [
+            elim (numbers_at S.pending (key t u C)) as (λ l. numbers_at S.pending (key t u C) ≡ l → take S t u C (Some p) l ≡ Ok r → Applies S r (rule.Take t u C)) [
               | [] ↦ λ pends g. cc
               | n ∷ ns ↦ λ pends g.
-                  let s = receives_from S t C c p h in
-                  subst IsSound (same_ok _ r g)
-                  (subst (λ (Z : Reading). Sound world T (reading S) (does world.given (item.Take u p.0 n t)) Z)
+                  let s = receives_from S t C c p h in let m = moved S.threads u c is in
+                  subst (λ (z : Applied). Applies S z (rule.Take t u C)) (same_ok _ r g)
+                  (takes t u C n ns p.0 s.0 p.1 m.active (m.stands ∙ s.1) s.2 pends refl
                   (λ i. record {
-                    mode = λ v. sym (modes_after u p.1 S.threads v) i;
-                    code = λ v. sym (codes_after u p.1 c S.threads is v) i;
-                    pending = sym (numbers_with (key t u C) ns S.pending) i;
-                    facts = sym (no_values u p.0 S.facts) i;
+                    mode = modes_with_code u p.1 S.threads i;
+                    code = codes_with_code u p.1 S.threads m.mode m.there i;
+                    pending = numbers_with (key t u C) ns S.pending i;
+                    facts = no_values u p.0 S.facts i;
                   })
-                  (sound_take world T (reading S) t u C n ns p.0 s.0 p.1 once (active u c is) (stands_at u c is ∙ s.1) s.2 pends))
+                  (names_with_code u p.1 S.threads))
             ] refl
       ] refl
 
-  pass_sound : (t u C : Name) (c d : Code) (r : Applied) → code_at S t ≡ Some c → code_at S u ≡ Some d →
-      pass S t u (sends S u C c) (receives S t C d) (numbers_at S.pending (key t u C)) ≡ Ok r → IsSound r
-  pass_sound t u C c d r is is' =
-      elim (sends S u C c) as (λ o. sends S u C c ≡ o → pass S t u o (receives S t C d) (numbers_at S.pending (key t u C)) ≡ Ok r → IsSound r) [
+  pass_applies : (t u C : Name) (c d : Code) (r : Applied) → code_at S t ≡ Some c → code_at S u ≡ Some d →
+      pass S t u (sends S u C c) (receives S t C d) (numbers_at S.pending (key t u C)) ≡ Ok r → Applies S r (rule.Pass t u C)
+  pass_applies t u C c d r is is' =
+      elim (sends S u C c) as (λ o. sends S u C c ≡ o → pass S t u o (receives S t C d) (numbers_at S.pending (key t u C)) ≡ Ok r → Applies S r (rule.Pass t u C)) [
         | None ↦ λ h g. cc
         | Some p ↦ λ h.
-            elim (receives S t C d) as (λ o. receives S t C d ≡ o → pass S t u (Some p) o (numbers_at S.pending (key t u C)) ≡ Ok r → IsSound r) [
+            elim (receives S t C d) as (λ o. receives S t C d ≡ o → pass S t u (Some p) o (numbers_at S.pending (key t u C)) ≡ Ok r → Applies S r (rule.Pass t u C)) [
               | None ↦ λ h' g. cc
               | Some q ↦ λ h'.
-                  elim (numbers_at S.pending (key t u C)) as (λ l. numbers_at S.pending (key t u C) ≡ l → pass S t u (Some p) (Some q) l ≡ Ok r → IsSound r) [
+                  elim (numbers_at S.pending (key t u C)) as (λ l. numbers_at S.pending (key t u C) ≡ l → pass S t u (Some p) (Some q) l ≡ Ok r → Applies S r (rule.Pass t u C)) [
                     | [] ↦ λ pends g.
                         let s = sends_to S u C c p h in let s' = receives_from S t C d q h' in
-                        let there = still_active t u p.1 d S.threads is' in
-                        subst IsSound (same_ok _ r g)
-                        (subst (λ (Z : Reading). Sound world T (reading S) (does world.given (item.Pass u q.0 t p.0)) Z)
+                        let m = moved S.threads t c is in let m' = moved S.threads u d is' in
+                        subst (λ (z : Applied). Applies S z (rule.Pass t u C)) (same_ok _ r g)
+                        (passes t u C p.0 s.0 p.1 q.0 s'.0 q.1 m.active m'.active (m.stands ∙ s.1) s.2 (m'.stands ∙ s'.1) s'.2 pends refl
                         (λ i. record {
-                          mode = λ v. sym (modes_after u q.1 (with_code t p.1 S.threads) v ∙ modes_after t p.1 S.threads v) i;
-                          code = sym ((λ j v. codes_after u q.1 there.0 (with_code t p.1 S.threads) there.1 v j)
-                              ∙ (λ j. changed same_name (λ v. codes_after t p.1 c S.threads is v j) u q.1)) i;
+                          mode = (modes_with_code u q.1 (with_code t p.1 S.threads) ∙ modes_with_code t p.1 S.threads) i;
+                          code = (codes_with_code u q.1 (with_code t p.1 S.threads) m'.mode (ap (λ (f : Name → Option Mode). f u) (modes_with_code t p.1 S.threads) ∙ m'.there)
+                              ∙ (λ j. changed same_name (codes_with_code t p.1 S.threads m.mode m.there j) u q.1)) i;
                           pending = numbers_at S.pending;
-                          facts = sym (some_values u q.0 (map (folded S.facts t) p.0) S.facts) i;
+                          facts = some_values u q.0 (map (folded S.facts t) p.0) S.facts i;
                         })
-                        (sound_pass world T (reading S) t u C p.0 s.0 p.1 q.0 s'.0 q.1 (active t c is) (active u d is') (stands_at t c is ∙ s.1) s.2 (stands_at u d is' ∙ s'.1) s'.2 pends))
+                        (names_with_code u q.1 (with_code t p.1 S.threads) ∙ names_with_code t p.1 S.threads))
                     | n ∷ ns ↦ λ pends g. cc
                   ] refl
             ] refl
       ] refl
 
-  -- the next state where t alone goes on
-  gone : (t : Name) (c k : Code) (is : code_at S t ≡ Some c) → Sound world T (reading S) stays (goes_on world T (reading S) t (active t c is) k) →
-      IsSound record { statement = None; next = record S { threads = with_code t k S.threads } }
-  gone t c k is =
-      subst (λ (Z : Reading). Sound world T (reading S) stays Z)
-      (λ i. record { mode = λ u. sym (modes_after t k S.threads u) i; code = λ u. sym (codes_after t k c S.threads is u) i; pending = numbers_at S.pending; facts = fact S.facts })
+  -- the reading where t alone goes on
+  gone : (t : Name) (c k : Code) → Moved S.threads t c → reading record S { threads = with_code t k S.threads } ≡ goes_on (reading S) t k
+  gone t c k m = λ i. record { mode = modes_with_code t k S.threads i; code = codes_with_code t k S.threads m.mode m.there i; pending = numbers_at S.pending; facts = fact S.facts }
 
-  known_sound : (t : Name) (c : Code) (r : Applied) → code_at S t ≡ Some c → known S t c ≡ Ok r → IsSound r
-  known_sound t c r is g =
+  known_applies : (t : Name) (c : Code) (r : Applied) → code_at S t ≡ Some c → known S t c ≡ Ok r → Applies S r (rule.Known t)
+  known_applies t c r is g =
+      let m = moved S.threads t c is in
       elim (known_ok S t c r g) [
         | inl k ↦
-            subst IsSound k.decides (gone t c (if is_true k.value then k.first then k.rest else k.second then k.rest) is
-            (sound_known_if world T (reading S) t (active t c is) k.statement k.guard k.first k.second k.rest (stands_at t c is ∙ k.stands) k.ways k.value k.folds))
+            let next = if is_true k.value then k.first then k.rest else k.second then k.rest in
+            subst (λ (z : Applied). Applies S z (rule.Known t)) k.decides (knows_if t k.statement k.guard k.first k.second k.rest k.value m.active (m.stands ∙ k.stands) k.ways k.folds refl (gone t c next m) (names_with_code t next S.threads))
         | inr k ↦
-            subst IsSound k.decides (gone t c (if is_true k.value then k.body then c else k.rest) is
-            (subst (λ (z : Code). Sound world T (reading S) stays (goes_on world T (reading S) t (active t c is) (if is_true k.value then k.body then z else k.rest))) (stands_at t c is)
-            (sound_known_while world T (reading S) t (active t c is) k.guard k.body k.rest (stands_at t c is ∙ k.stands) k.value k.folds)))
+            let next = if is_true k.value then k.body then c else k.rest in
+            subst (λ (z : Applied). Applies S z (rule.Known t)) k.decides (knows_while t k.guard k.body k.rest k.value m.active (m.stands ∙ k.stands) k.folds refl
+            (gone t c next m ∙ (λ i. goes_on (reading S) t (if is_true k.value then k.body then sym m.stands i else k.rest))) (names_with_code t next S.threads))
       ]
 
-  -- each basic rule, where no number pends twice
-  pub apply_sound : (b : Basic) (r : Applied) → Unique (numbers_at S.pending) → apply S b ≡ Ok r → IsSound r
-  apply_sound (rule.Assign t) r once g = let x = at_code (code_at S t) (assign S t) r g in assign_sound t x.0 r x.1 x.2
-  apply_sound (rule.Fill t u c n) r once g =
-      let x = at_code (code_at S t) (λ code. fill S t u c n (sends S u c code)) r g in fill_sound t u c n x.0 r x.1 x.2
-  apply_sound (rule.Pass t u c) r once g =
+  -- each basic rule
+  pub applies : (b : Basic) (r : Applied) → apply S b ≡ Ok r → Applies S r b
+  applies (rule.Assign t) r g = let x = at_code (code_at S t) (assign S t) r g in assign_applies t x.0 r x.1 x.2
+  applies (rule.Fill t u c n) r g =
+      let x = at_code (code_at S t) (λ code. fill S t u c n (sends S u c code)) r g in fill_applies t u c n x.0 r x.1 x.2
+  applies (rule.Pass t u c) r g =
       let x = at_code (code_at S t) (λ code. at_thread (code_at S u) (λ other. pass S t u (sends S u c code) (receives S t c other) (numbers_at S.pending (key t u c)))) r g in
       let y = at_code (code_at S u) (λ other. pass S t u (sends S u c x.0) (receives S t c other) (numbers_at S.pending (key t u c))) r x.2 in
-      pass_sound t u c x.0 y.0 r x.1 y.1 y.2
-  apply_sound (rule.Take t u c) r once g =
-      let x = at_code (code_at S u) (λ code. take S t u c (receives S t c code) (numbers_at S.pending (key t u c))) r g in take_sound t u c x.0 r once x.1 x.2
-  apply_sound (rule.Known t) r once g = let x = at_code (code_at S t) (known S t) r g in known_sound t x.0 r x.1 x.2
+      pass_applies t u c x.0 y.0 r x.1 y.1 y.2
+  applies (rule.Take t u c) r g =
+      let x = at_code (code_at S u) (λ code. take S t u c (receives S t c code) (numbers_at S.pending (key t u c))) r g in take_applies t u c x.0 r x.1 x.2
+  applies (rule.Known t) r g = let x = at_code (code_at S t) (known S t) r g in known_applies t x.0 r x.1 x.2

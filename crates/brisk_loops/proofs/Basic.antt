@@ -19,6 +19,7 @@ use Rattle.brisk_state.specs.declared.thread.Mode.{Mode}
 use Rattle.brisk_state.specs.declared.thread.Mode.TheVariants.{One, At, Each}
 use Rattle.brisk_state.specs.Symbolic.{Key, key, same_key}
 use Rattle.brisk_loops.specs.Does as seq
+use Rattle.brisk_loops.proofs.After.{after_assign, after_fill, after_take}
 use Rattle.brisk_loops.proofs.Agree.{agrees_with, agrees_forgotten}
 use Rattle.brisk_loops.proofs.Events as events
 use Rattle.brisk_loops.proofs.Events.{Unique}
@@ -55,15 +56,9 @@ takes_oldest world c p q C xs w K m is front =
     ∙ ap (takes (queue q p C) xs K 0) front
 
 module _ (world : World) (T : Typing world) (S : Reading) (t : Name) (act : is_active (S.mode t) ≡ true) where
-  abbrev pub after_assign : Name → Expression → Code → Reading
-  after_assign x e k = record S {
-    code = changed same_name S.code t k;
-    facts = changed same_name S.facts t (facts_with (S.facts t) (x ∷ []) (map (fold (S.facts t)) (e ∷ [])));
-  }
-
-  pub sound_assign : (x : Name) (e : Expression) (k : Code) → S.code t ≡ Assign x e ⨾ k → Sound world T S (seq.passes world.given t (x ∷ []) t (e ∷ [])) (after_assign x e k)
+  pub sound_assign : (x : Name) (e : Expression) (k : Code) → S.code t ≡ Assign x e ⨾ k → Sound world T S (seq.passes world.given t (x ∷ []) t (e ∷ [])) (after_assign S t x e k)
   sound_assign x e k is =
-      sound_going world T S (seq.passes world.given t (x ∷ []) t (e ∷ [])) (after_assign x e k) (λ κ φ c typed picks f.
+      sound_going world T S (seq.passes world.given t (x ∷ []) t (e ∷ [])) (after_assign S t x e k) (λ κ φ c typed picks f.
       let vs = value_of world.given.sizes (c.store (φ t)) e ∷ [] in record {
         to = record {
           code = changed same_process c.code (φ t) (code_by φ k then κ (φ t));
@@ -95,17 +90,11 @@ module _ (world : World) (T : Typing world) (S : Reading) (t : Name) (act : is_a
       })
 
 module _ (world : World) (T : Typing world) (S : Reading) (t u : Name) (C : Name) where
-  abbrev pub after_fill : ℕ → Code → Reading
-  after_fill n k = record S {
-    code = changed same_name S.code t k;
-    pending = changed same_key S.pending (key t u C) (S.pending (key t u C) ++ n ∷ []);
-  }
-
   pub sound_fill : (n : ℕ) (es : List Expression) (w : Who) (k : Code) → is_active (S.mode t) ≡ true → S.code t ≡ Send C es w ⨾ k → stands_by (S.mode u) u w ≡ true →
-      ((l : Key) → has n (S.pending l) ≡ false) → Sound world T S (seq.fills world.given n t u es) (after_fill n k)
+      ((l : Key) → has n (S.pending l) ≡ false) → Sound world T S (seq.fills world.given n t u es) (after_fill S t u C n k)
   sound_fill n es w k act is stands unused =
       let act_u = stands_active (S.mode u) u w stands in
-      sound_going world T S (seq.fills world.given n t u es) (after_fill n k) (λ κ φ c typed picks f.
+      sound_going world T S (seq.fills world.given n t u es) (after_fill S t u C n k) (λ κ φ c typed picks f.
       let vs = map (value_of world.given.sizes (c.store (φ t))) es in
       let live_t = active_live world S.mode φ t picks act in let live_u = active_live world S.mode φ u picks act_u in
       let no_box : c.box n (φ t) (φ u) ≡ None = f.empty (φ t) (φ u) live_t live_u n (λ D. unused (key (φ t).role (φ u).role D)) in record {
@@ -138,18 +127,11 @@ module _ (world : World) (T : Typing world) (S : Reading) (t u : Name) (C : Name
         };
       })
 
-  abbrev pub after_take : List Name → List ℕ → Code → Reading
-  after_take xs ns k = record S {
-    code = changed same_name S.code u k;
-    pending = changed same_key S.pending (key t u C) ns;
-    facts = changed same_name S.facts u (forgotten (S.facts u) xs);
-  }
-
   pub sound_take : (n : ℕ) (ns : List ℕ) (xs : List Name) (w : Who) (k : Code) → Unique S.pending → is_active (S.mode u) ≡ true → S.code u ≡ Recv C xs w ⨾ k → stands_by (S.mode t) t w ≡ true →
-      S.pending (key t u C) ≡ n ∷ ns → Sound world T S (seq.takes world.given u xs n t) (after_take xs ns k)
+      S.pending (key t u C) ≡ n ∷ ns → Sound world T S (seq.takes world.given u xs n t) (after_take S t u C xs ns k)
   sound_take n ns xs w k once act_u is stands pends =
       let act = stands_active (S.mode t) t w stands in
-      sound_going world T S (seq.takes world.given u xs n t) (after_take xs ns k) (λ κ φ c typed picks f.
+      sound_going world T S (seq.takes world.given u xs n t) (after_take S t u C xs ns k) (λ κ φ c typed picks f.
       let o = events.oldest_is world S κ φ c picks t act u act_u C n ns f once pends in
       let K = code_by φ k then κ (φ u) in
       let code_is : c.code (φ u) ≡ Recv C xs (who_by φ w) ⨾ K = events.own_code world S κ φ c picks u act_u f ∙ ap (λ z. code_by φ z then κ (φ u)) is in

@@ -17,7 +17,8 @@ use Rattle.brisk_loops.proofs.Fits.{World, Conf, mem, Picks, Fits}
 use Rattle.brisk_loops.proofs.Leads.{state, Rest, rest-append}
 use Rattle.brisk_loops.proofs.Readings.{Reading, is_active, code_by, statement_by}
 use Rattle.brisk_loops.proofs.Sound.{Typing, Sound, Arrives, guard_of}
-use Rattle.brisk_loops.proofs.Control.{code_then, Silent, Weaker, weaken, sides, lead_arrives, at_guard, guard_event}
+use Rattle.brisk_loops.proofs.After.{at_guard}
+use Rattle.brisk_loops.proofs.Control.{code_then, Silent, Weaker, weaken, sides, lead_arrives, guard_event}
 
 goes_side : (φ : Focus) (a b rest κ : Code) (g : Bool) → goes_to ((if g then code_by φ a else code_by φ b) then (code_by φ rest then κ)) ≡ goes_to (code_by φ (if g then a then rest else b then rest) then κ)
 goes_side φ a b rest κ true = ap goes_to (sym (code_then φ a rest κ))
@@ -27,7 +28,7 @@ goes_one : (φ : Focus) (a rest κ : Code) (g : Bool) → goes_to (if g then cod
 goes_one φ a rest κ true = ap goes_to (sym (code_then φ a rest κ))
 goes_one φ a rest κ false = refl
 
-parts : (u v : Expression × Code × Code) → Some u ≡ Some v → (u.0 ≡ v.0) × (u.1 ≡ v.1) × (u.2 ≡ v.2)
+pub parts : (u v : Expression × Code × Code) → Some u ≡ Some v → (u.0 ≡ v.0) × (u.1 ≡ v.1) × (u.2 ≡ v.2)
 parts u v h = let e = same_Some u v h in (ap (λ (w : Expression × Code × Code). w.0) e, ap (λ (w : Expression × Code × Code). w.1) e, ap (λ (w : Expression × Code × Code). w.2) e)
 
 -- the event of an if
@@ -78,12 +79,12 @@ module _ (world : World) (T : Typing world) where
 
   module _ (S : Reading) (t : Name) (act : is_active (S.mode t) ≡ true) (s : Statement) (e : Expression) (a b rest : Code) (is : S.code t ≡ s ⨾ rest) (has_sides : sides s ≡ Some (e, a, b)) where
     pub event_of : (κ : Pid → Code) (φ : Focus) (c : Conf) → T.IsTyped c → Picks S.mode φ → Fits world S κ φ c → (g : Bool) → seq.guard world.given t e φ (mem c) ≡ g →
-        Silent world S κ φ c (φ t) (at_guard world T S t act e g (if g then a then rest else b then rest))
+        Silent world S κ φ c (φ t) (at_guard S t e g (if g then a then rest else b then rest))
     event_of κ φ c typed picks f g h =
         guard_event world T S t act s rest is e (if_guards s e a b has_sides) κ κ φ c typed picks f record { same = λ q l d. refl } g h (if g then a then rest else b then rest)
         (if_effect (seen_by (state world c) (φ t)) (φ t) φ s e a b rest (κ (φ t)) has_sides g h)
 
-    pub sound_branch : (R Q : Does) (S' : Reading) → Sound world T (at_guard world T S t act e true (a then rest)) R S' → Sound world T (at_guard world T S t act e false (b then rest)) Q S' → Sound world T S (seq.branches world.given t e R Q) S'
+    pub sound_branch : (R Q : Does) (S' : Reading) → Sound world T (at_guard S t e true (a then rest)) R S' → Sound world T (at_guard S t e false (b then rest)) Q S' → Sound world T S (seq.branches world.given t e R Q) S'
     sound_branch R Q S' x y = record {
       there = λ κ φ c typed picks f m r.
           elim r [

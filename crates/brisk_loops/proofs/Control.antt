@@ -16,6 +16,7 @@ use Rattle.brisk_async.specs.Machine.{effect, goes_to, seen_by, unchanged}
 use Rattle.brisk_facts.specs.Laws.{Agrees}
 use Rattle.brisk_state.specs.declared.thread.Mode.{Mode}
 use Rattle.brisk_state.specs.declared.thread.Mode.TheVariants.{One, At, Each}
+use Rattle.brisk_loops.proofs.After.{at_guard}
 use Rattle.brisk_loops.proofs.Compose.{still_then}
 use Rattle.brisk_loops.proofs.Events as events
 use Rattle.brisk_loops.proofs.Fits.{World, Conf, mem, live, Picks, Fits, Still, updated, sole}
@@ -131,15 +132,12 @@ module _ (world : World) (T : Typing world) where
   }
 
   module _ (S : Reading) (t : Name) (act : is_active (S.mode t) ≡ true) where
-    abbrev pub at_guard : Expression → Bool → Code → Reading
-    at_guard e b k = record S { code = changed same_name S.code t k; facts = changed same_name S.facts t (learnt (S.facts t) e b) }
-
     -- the guard's event
     module _ (s : Statement) (rest : Code) (is : S.code t ≡ s ⨾ rest) (e : Expression) (guards : guard_of s ≡ Some e) where
       pub guard_event : (κ κ' : Pid → Code) (φ : Focus) (c : Conf) → T.IsTyped c → Picks S.mode φ → Fits world S κ φ c → Behind world S.mode φ (φ t) κ κ' →
           (b : Bool) → is_true (value_of world.given.sizes (c.store (φ t)) e) ≡ b → (k : Code) →
           effect (seen_by (state world c) (φ t)) (φ t) (statement_by φ s ⨾ (code_by φ rest then κ (φ t))) None None ≡ goes_to (code_by φ k then κ' (φ t)) →
-          Silent world S κ' φ c (φ t) (at_guard e b k)
+          Silent world S κ' φ c (φ t) (at_guard S t e b k)
       guard_event κ κ' φ c typed picks f behind b g k h =
           silent world S κ κ' φ c picks t act f behind k (learnt (S.facts t) e b)
           (T.learns c (φ t) (statement_by φ s) (code_by φ rest then κ (φ t)) e (S.facts t) b typed

@@ -44,7 +44,7 @@ and_true true true e = (refl, refl)
 and_true true false e = cc
 and_true false d e = cc
 
-equal_values : (a b : Value) → same_value a b ≡ true → a ≡ b
+pub equal_values : (a b : Value) → same_value a b ≡ true → a ≡ b
 equal_values (value.Int m) (value.Int n) e = ap value.Int ((Decides-int_eq m n).0 e)
 equal_values (value.Bool p) (value.Bool q) e = ap value.Bool (same_bool p q e)
   where

@@ -1,4 +1,4 @@
--- What stands where in a symbolic state after a change: facts, pending numbers and threads.
+-- What stands where in a symbolic state after a change of facts or of pending numbers.
 use Rattle.std.proofs.Common.{◌≡◌, ℕ, Bool, true, false, List, [], ◌∷◌, Option, Some, None, cond, refl, sym, ap, ◌∙◌}
 use Rattle.std.specs.Prelude.{if◌then◌else◌, ◌&&◌, not, option_map}
 use Rattle.std.specs.declared.cmp.Ordering.{Ordering}
@@ -23,7 +23,7 @@ use Rattle.brisk_loops.specs.Rules.{mode_of, code_in}
 use Rattle.brisk_loops.proofs.Loops.{facts_back}
 use Rattle.brisk_loops.proofs.Readings.{facts_with, forgotten, is_active}
 
-place_total : IsTotalOrder place_cmp
+pub place_total : IsTotalOrder place_cmp
 place_total = then_total (on_total (λ (k : Place). k.0) nat_list_cmp_total) (on_total (λ (k : Place). k.1) nat_list_cmp_total)
 
 key_total : IsTotalOrder key_cmp
@@ -57,13 +57,13 @@ key_ties k l =
     ∙ (λ i. ((sym (texts_ties l.from k.from) ∙ name_laws.symm l.from k.from) i && (sym (texts_ties l.to k.to) ∙ name_laws.symm l.to k.to) i)
     && (sym (texts_ties l.channel k.channel) ∙ name_laws.symm l.channel k.channel) i)
 
-exact_place : (a b : Place) → place_cmp a b ≡ Equal → a ≡ b
+pub exact_place : (a b : Place) → place_cmp a b ≡ Equal → a ≡ b
 exact_place = exact_pairs (slice_cmp nat_cmp) (slice_cmp nat_cmp) exact_bytes exact_bytes
 
 abbrev Parts : Type 0
 Parts = Name × (Name × Name)
 
-exact_key_cmp : (k l : Key) → key_cmp k l ≡ Equal → k ≡ l
+pub exact_key_cmp : (k l : Key) → key_cmp k l ≡ Equal → k ≡ l
 exact_key_cmp k l h =
     ap (λ (p : Parts). record { from = p.0; to = p.1.0; channel = p.1.1 })
     (exact_pairs (slice_cmp nat_cmp) (λ (a b : Name × Name). ordering_then (slice_cmp nat_cmp a.0 b.0) (slice_cmp nat_cmp a.1 b.1)) exact_bytes
@@ -136,67 +136,3 @@ numbers_with k ns pending = λ i l. at_key k ns pending l i
         ap or_none (find-put key_cmp key_total l k (n ∷ ns) pending)
         ∙ pushed (eq_by_cmp key_cmp l k) (find key_cmp l pending) (n ∷ ns)
         ∙ ap (λ b. cond b (n ∷ ns) (numbers_at pending l)) (key_ties k l)
-
--- a thread with its code changed, if it is t
-abbrev recoded : Bool → Code → Thread → Thread
-recoded b k x = if b then record x { code = k } else x
-
-recoded_name : (b : Bool) (k : Code) (x : Thread) → (recoded b k x).name ≡ x.name
-recoded_name true k x = refl
-recoded_name false k x = refl
-
-recoded_mode : (b : Bool) (k : Code) (o : Option Thread) → mode_of (option_map (recoded b k) o) ≡ mode_of o
-recoded_mode b k None = refl
-recoded_mode true k (Some x) = refl
-recoded_mode false k (Some x) = refl
-
-thread_after : (t u : Name) (k : Code) (ts : List Thread) → thread_named (with_code t k ts) u ≡ option_map (recoded (same_name t u) k) (thread_named ts u)
-thread_after t u k [] = refl
-thread_after t u k (x ∷ xs) =
-    ap (λ n. if same_name u n then Some (recoded (same_name t x.name) k x) else thread_named (with_code t k xs) u) (recoded_name (same_name t x.name) k x)
-    ∙ ap (λ o. if same_name u x.name then Some (recoded (same_name t x.name) k x) else o) (thread_after t u k xs)
-    ∙ elim (same_name u x.name) as (λ b. same_name u x.name ≡ b → (if b then Some (recoded (same_name t x.name) k x) else option_map (recoded (same_name t u) k) (thread_named xs u))
-    ≡ option_map (recoded (same_name t u) k) (if b then Some x else thread_named xs u)) [
-      | true ↦ λ e. ap (λ z. Some (recoded (same_name t z) k x)) (sym (exact_name u x.name e))
-      | false ↦ λ e. refl
-    ] refl
-
-pub modes_after : (t : Name) (k : Code) (ts : List Thread) (u : Name) → mode_of (thread_named (with_code t k ts) u) ≡ mode_of (thread_named ts u)
-modes_after t k ts u = ap mode_of (thread_after t u k ts) ∙ recoded_mode (same_name t u) k (thread_named ts u)
-
--- what it is for rules to move a thread: it is active, and its code is this
-pub moved : (o : Option Thread) (c : Code) → active_code o ≡ Some c → (is_active (mode_of o) ≡ true) × (code_in o ≡ c)
-moved None c e = cc
-moved (Some u) c e =
-    elim (symbolic.is_active u.mode) as (λ b. symbolic.is_active u.mode ≡ b → (if b then Some u.code else None) ≡ Some c → (b ≡ true) × (u.code ≡ c)) [
-      | true ↦ λ a h. (refl, cc)
-      | false ↦ λ a h. cc
-    ] refl e
-
-code_there : (o : Option Thread) (k c : Code) → active_code o ≡ Some c → code_in (option_map (recoded true k) o) ≡ k
-code_there None k c e = cc
-code_there (Some u) k c e = refl
-
-same_thread : (o : Option Thread) (k : Code) → code_in (option_map (recoded false k) o) ≡ code_in o
-same_thread None k = refl
-same_thread (Some u) k = refl
-
-pub codes_after : (t : Name) (k c : Code) (ts : List Thread) → active_code (thread_named ts t) ≡ Some c →
-    (u : Name) → code_in (thread_named (with_code t k ts) u) ≡ changed same_name (λ v. code_in (thread_named ts v)) t k u
-codes_after t k c ts is u =
-    ap code_in (thread_after t u k ts)
-    ∙ elim (same_name t u) as (λ b. same_name t u ≡ b → code_in (option_map (recoded b k) (thread_named ts u)) ≡ (if b then k else code_in (thread_named ts u))) [
-      | true ↦ λ e. code_there (thread_named ts u) k c (ap (λ z. active_code (thread_named ts z)) (sym (exact_name t u e)) ∙ is)
-      | false ↦ λ e. same_thread (thread_named ts u) k
-    ] refl
-
--- a thread that rules move is still moved after another's code, or its own, has changed
-pub still_active : (t u : Name) (k c : Code) (ts : List Thread) → active_code (thread_named ts u) ≡ Some c →
-    (d : Code) × (active_code (thread_named (with_code t k ts) u) ≡ Some d)
-still_active t u k c ts is =
-    let x = active_again (same_name t u) (thread_named ts u) is in (x.0, ap active_code (thread_after t u k ts) ∙ x.1)
-  where
-    active_again : (b : Bool) (o : Option Thread) → active_code o ≡ Some c → (d : Code) × (active_code (option_map (recoded b k) o) ≡ Some d)
-    active_again b None e = cc
-    active_again true (Some v) e = (k, ap (λ a. if a then Some k else None) (moved (Some v) c e).0)
-    active_again false (Some v) e = (c, e)

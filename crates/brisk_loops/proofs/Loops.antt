@@ -25,7 +25,8 @@ use Rattle.brisk_loops.proofs.Fits.{World, Conf, mem, live, Picks, Fits, sole}
 use Rattle.brisk_loops.proofs.Leads.{state, Rest, rest-append, count-append}
 use Rattle.brisk_loops.proofs.Readings.{Reading, is_active, is_each, has, code_by, Known}
 use Rattle.brisk_loops.proofs.Sound.{Typing, Sound, Arrives, sound_going}
-use Rattle.brisk_loops.proofs.Control.{code_then, Silent, silent, sides, lead_arrives, at_guard, guard_event, not_both}
+use Rattle.brisk_loops.proofs.After.{goes_on, at_guard}
+use Rattle.brisk_loops.proofs.Control.{code_then, Silent, silent, sides, lead_arrives, guard_event, not_both}
 use Rattle.brisk_loops.proofs.Branch.{if_effect}
 
 pub facts_back : (f : Name → Known) (t : Name) → changed same_name f t (f t) ≡ f
@@ -39,14 +40,11 @@ while_effect : (v : View) (p : Pid) (φ : Focus) (e : Expression) (b rest κ : C
 while_effect v p φ e b rest κ g i = ap (λ t. goes_to (if t then code_by φ b then (code_by φ (While e b ⨾ rest) then κ) else code_by φ rest then κ)) i
 
 module _ (world : World) (T : Typing world) (S : Reading) (t : Name) (act : is_active (S.mode t) ≡ true) where
-  abbrev pub goes_on : Code → Reading
-  goes_on k = record S { code = changed same_name S.code t k }
-
   sound_silent : (k : Code) →
       ((κ : Pid → Code) (φ : Focus) (c : Conf) → Picks S.mode φ → Fits world S κ φ c → effect (seen_by (state world c) (φ t)) (φ t) (code_by φ (S.code t) then κ (φ t)) None None ≡ goes_to (code_by φ k then κ (φ t))) →
-      Sound world T S seq.stays (goes_on k)
+      Sound world T S seq.stays (goes_on S t k)
   sound_silent k h =
-      sound_going world T S seq.stays (goes_on k) (λ κ φ c typed picks f.
+      sound_going world T S seq.stays (goes_on S t k) (λ κ φ c typed picks f.
       let x = silent world S κ κ φ c picks t act f record { same = λ q l d. refl } k (S.facts t) (events.own_facts world S κ φ c picks t act f) (h κ φ c picks f) in record {
         to = x.to;
         leads = x.leads;
@@ -56,14 +54,14 @@ module _ (world : World) (T : Typing world) (S : Reading) (t : Name) (act : is_a
         still = x.still;
       })
 
-  pub sound_known_if : (s : Statement) (e : Expression) (a b rest : Code) → S.code t ≡ s ⨾ rest → sides s ≡ Some (e, a, b) → (v : Value) → fold (S.facts t) e ≡ Some v → Sound world T S seq.stays (goes_on (if is_true v then a then rest else b then rest))
+  pub sound_known_if : (s : Statement) (e : Expression) (a b rest : Code) → S.code t ≡ s ⨾ rest → sides s ≡ Some (e, a, b) → (v : Value) → fold (S.facts t) e ≡ Some v → Sound world T S seq.stays (goes_on S t (if is_true v then a then rest else b then rest))
   sound_known_if s e a b rest is has v known =
       sound_silent (if is_true v then a then rest else b then rest) (λ κ φ c picks f.
       ap (λ z. effect (seen_by (state world c) (φ t)) (φ t) (code_by φ z then κ (φ t)) None None) is
       ∙ if_effect (seen_by (state world c) (φ t)) (φ t) φ s e a b rest (κ (φ t)) has (is_true v)
       (ap is_true (fold_value world.given.sizes (c.store (φ t)) (S.facts t) (events.own_facts world S κ φ c picks t act f) e v known)))
 
-  pub sound_known_while : (e : Expression) (b rest : Code) → S.code t ≡ While e b ⨾ rest → (v : Value) → fold (S.facts t) e ≡ Some v → Sound world T S seq.stays (goes_on (if is_true v then b then S.code t else rest))
+  pub sound_known_while : (e : Expression) (b rest : Code) → S.code t ≡ While e b ⨾ rest → (v : Value) → fold (S.facts t) e ≡ Some v → Sound world T S seq.stays (goes_on S t (if is_true v then b then S.code t else rest))
   sound_known_while e b rest is v known =
       sound_silent (if is_true v then b then S.code t else rest) (λ κ φ c picks f.
       ap (λ z. effect (seen_by (state world c) (φ t)) (φ t) (code_by φ z then κ (φ t)) None None) is
@@ -116,10 +114,10 @@ module _ (world : World) (S E : Reading) (t : Name) (act : is_active (S.mode t) 
 
 module _ (world : World) (T : Typing world) (S : Reading) (t : Name) (act : is_active (S.mode t) ≡ true) (e : Expression) (b rest : Code) (is : S.code t ≡ While e b ⨾ rest) where
   abbrev pub turn_start : Reading
-  turn_start = at_guard world T S t act e true b
+  turn_start = at_guard S t e true b
 
   abbrev pub after_while : Reading
-  after_while = at_guard world T S t act e false rest
+  after_while = at_guard S t e false rest
 
   pub begins : (κ : Pid → Code) (φ : Focus) (c : Conf) → T.IsTyped c → Picks S.mode φ → Fits world S κ φ c → seq.guard world.given t e φ (mem c) ≡ true → Silent world S (behind S t φ κ) φ c (φ t) turn_start
   begins κ φ c typed picks f g =

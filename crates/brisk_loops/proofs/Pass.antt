@@ -14,6 +14,7 @@ use Rattle.brisk_facts.specs.Learning.{fold}
 use Rattle.brisk_facts.proofs.Folding.{fold_value}
 use Rattle.brisk_state.specs.Symbolic.{key}
 use Rattle.brisk_loops.specs.Does as seq
+use Rattle.brisk_loops.proofs.After.{after_pass}
 use Rattle.brisk_loops.proofs.Agree.{agrees_with}
 use Rattle.brisk_loops.proofs.Basic.{partner_is, takes_oldest}
 use Rattle.brisk_loops.proofs.Events as events
@@ -36,17 +37,11 @@ module _ (world : World) (T : Typing world) (S : Reading) (t u : Name) (C : Name
   abbrev sent : Code → Reading
   sent k = record S { code = changed same_name S.code t k }
 
-  abbrev pub after_pass : List Name → List Expression → Code → Code → Reading
-  after_pass xs es k k' = record S {
-    code = changed same_name (changed same_name S.code t k) u k';
-    facts = changed same_name S.facts u (facts_with (S.facts u) xs (map (fold (S.facts t)) es));
-  }
-
   pub sound_pass : (es : List Expression) (w : Who) (k : Code) (xs : List Name) (w' : Who) (k' : Code) → is_active (S.mode t) ≡ true → is_active (S.mode u) ≡ true →
       S.code t ≡ Send C es w ⨾ k → stands_by (S.mode u) u w ≡ true → S.code u ≡ Recv C xs w' ⨾ k' → stands_by (S.mode t) t w' ≡ true → S.pending (key t u C) ≡ [] →
-      Sound world T S (seq.passes world.given u xs t es) (after_pass xs es k k')
+      Sound world T S (seq.passes world.given u xs t es) (after_pass S t u xs es k k')
   sound_pass es w k xs w' k' act act_u is stands is' stands' empty =
-      sound_going world T S (seq.passes world.given u xs t es) (after_pass xs es k k') (λ κ φ c typed picks f.
+      sound_going world T S (seq.passes world.given u xs t es) (after_pass S t u xs es k k') (λ κ φ c typed picks f.
       let vs = map (value_of world.given.sizes (c.store (φ t))) es in
       let Q = queue (φ t) (φ u) C in
       let K = code_by φ k then κ (φ t) in let K' = code_by φ k' then κ (φ u) in

@@ -43,13 +43,12 @@ module _ (S : Reading) (t : Name) (a : AnyReceive) where
     facts = λ u. if same_name a.set u then S.facts a.set else E.facts u;
   }
 
-  -- the thread stands at a receive from any of a set that isn't empty
-  pub record MayPick (sizes : Name → ℕ) : Type 0 where
+  -- the thread stands at a receive from any
+  pub record MayPick : Type 0 where
     pub set : S.mode a.set ≡ Some thread_mode.Each
     pub active : is_active (S.mode t) ≡ true
     pub is : S.code t ≡ any_code a
     pub free : (u : Name) → Free a.set (S.code u)
-    pub some : nat_lt 0 (sizes a.set) ≡ true
 
   -- a premise's end that closes
   pub record Picked (E : Reading) : Type 0 where
@@ -61,7 +60,7 @@ module _ (S : Reading) (t : Name) (a : AnyReceive) where
     pub facts : (x : Name) (v : Value) → S.facts a.set x ≡ Some v → E.facts a.set x ≡ Some v
     pub free : (u : Name) → Free a.set (E.code u)
 
-module _ (world : World) (T : Typing world) (S : Reading) (t : Name) (a : AnyReceive) (R : Does) (E : Reading) (entry : MayPick S t a world.given.sizes) (exit : Picked S t a E) (premise : Sound world T (pick_start S t a) R E)
+module _ (world : World) (T : Typing world) (S : Reading) (t : Name) (a : AnyReceive) (R : Does) (E : Reading) (entry : MayPick S t a) (some : nat_lt 0 (world.given.sizes a.set) ≡ true) (exit : Picked S t a E) (premise : Sound world T (pick_start S t a) R E)
     (κ : Pid → Code) (φ : Focus) (picks : Picks S.mode φ) (c : Conf) (typed : T.IsTyped c) (f : Fits world S κ φ c) where
   abbrev s : Name
   s = a.set
@@ -221,13 +220,13 @@ module _ (world : World) (T : Typing world) (S : Reading) (t : Name) (a : AnyRec
               },
             )
         | inr x ↦
-            let y = premise.back κ' (in_focus s 0 φ) (taken 0 entry.some) (typed_taken 0 entry.some) (picks_in S.mode s φ 0 picks) (fits_taken 0 entry.some) es (named receive p (member s 0) z) (x.runs (member s 0)) (x.terminal (member s 0) (is_inside world.given.sizes s 0 entry.some)) in
-            absurd (moves world T S t a entry.set entry.active κ φ picks X c 0 y.0 y.2 y.3.runs (returned 0 entry.some y.0 y.3.fits) (let h = y.4.counts p in let n = x.none in omega (arith, h, n)))
+            let y = premise.back κ' (in_focus s 0 φ) (taken 0 some) (typed_taken 0 some) (picks_in S.mode s φ 0 picks) (fits_taken 0 some) es (named receive p (member s 0) z) (x.runs (member s 0)) (x.terminal (member s 0) (is_inside world.given.sizes s 0 some)) in
+            absurd (moves world T S t a entry.set entry.active κ φ picks X c 0 y.0 y.2 y.3.runs (returned 0 some y.0 y.3.fits) (let h = y.4.counts p in let n = x.none in omega (arith, h, n)))
       ]
 
-pub sound_pick : (world : World) (T : Typing world) (S : Reading) (t : Name) (a : AnyReceive) (R : Does) (E : Reading) → MayPick S t a world.given.sizes → Picked S t a E → Sound world T (pick_start S t a) R E →
+pub sound_pick : (world : World) (T : Typing world) (S : Reading) (t : Name) (a : AnyReceive) (R : Does) (E : Reading) → MayPick S t a → nat_lt 0 (world.given.sizes a.set) ≡ true → Picked S t a E → Sound world T (pick_start S t a) R E →
     Sound world T S (seq.picked a.set R (world.given.sizes a.set)) (after_pick S t a E)
-sound_pick world T S t a R E entry exit premise = record {
-  there = λ κ φ c typed picks f. pick_there world T S t a R E entry exit premise κ φ picks c typed f;
-  back = λ κ φ c typed picks f. pick_back world T S t a R E entry exit premise κ φ picks c typed f;
+sound_pick world T S t a R E entry some exit premise = record {
+  there = λ κ φ c typed picks f. pick_there world T S t a R E entry some exit premise κ φ picks c typed f;
+  back = λ κ φ c typed picks f. pick_back world T S t a R E entry some exit premise κ φ picks c typed f;
 }

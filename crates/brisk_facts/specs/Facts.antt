@@ -61,9 +61,14 @@ is_known (Some w) v = same_value w v
 abbrev pub is_fact : Facts → Place × Value → Bool
 is_fact facts e = is_known (find place_cmp e.0 facts) e.1
 
+-- both are known, and they are the same
+abbrev pub agree : Option Value → Option Value → Bool
+agree None other = false
+agree (Some v) other = is_known other v
+
 -- the facts that both have
 abbrev pub common : Facts → Facts → Facts
-common facts others = filter (is_fact others) facts
+common facts others = facts_where (λ q. agree (find place_cmp q facts) (find place_cmp q others)) facts
 
 -- the facts of the one and of the other, where no place is in both
 abbrev pub joined : Facts → Facts → Facts

@@ -89,7 +89,7 @@ restored_codes looks (t ∷ ts) (x ∷ us) e n u l =
     here true a h = sym (same_codes t.code x.code (unless_none _ _ h))
     here false a h = cc
 
-pointwise_same : {A : Type 0} (same : A → A → Bool) → ((a b : A) → same a b ≡ true → a ≡ b) → (xs ys : List A) → pointwise same xs ys ≡ true → xs ≡ ys
+pub pointwise_same : {A : Type 0} (same : A → A → Bool) → ((a b : A) → same a b ≡ true → a ≡ b) → (xs ys : List A) → pointwise same xs ys ≡ true → xs ≡ ys
 pointwise_same same exact [] [] e = refl
 pointwise_same same exact [] (y ∷ ys) e = cc
 pointwise_same same exact (x ∷ xs) [] e = cc
@@ -128,7 +128,7 @@ found h (y ∷ F) q v a e =
     equal Equal e = refl
     equal Greater e = cc
 
-known_is : (o : Option Value) (v : Value) → is_known o v ≡ true → o ≡ Some v
+pub known_is : (o : Option Value) (v : Value) → is_known o v ≡ true → o ≡ Some v
 known_is None v e = cc
 known_is (Some w) v e = ap Some (equal_values w v e)
 

@@ -282,3 +282,12 @@ module _ (S : Symbolic) where
   applies (rule.Take t u c) r g =
       let x = at_code (code_at S u) (λ code. take S t u c (receives S t c code) (numbers_at S.pending (key t u c))) r g in take_applies t u c x.0 r x.1 x.2
   applies (rule.Known t) r g = let x = at_code (code_at S t) (known S t) r g in known_applies t x.0 r x.1 x.2
+
+-- the threads have the same names after it
+pub named_applied : (S : Symbolic) (r : Applied) (b : Basic) → Applies S r b → names r.next.threads ≡ names S.threads
+named_applied S r _ (assigns t x e k act is q n named) = named
+named_applied S r _ (fills t u C n es w k act is stands unused q m named) = named
+named_applied S r _ (takes t u C n ns xs w k act is stands pends q m named) = named
+named_applied S r _ (passes t u C es w k xs w' k' act act' is stands is' stands' empty q n named) = named
+named_applied S r _ (knows_if t s e a b rest v act is two f q n named) = named
+named_applied S r _ (knows_while t e b rest v act is f q n named) = named

@@ -21,6 +21,7 @@ use Rattle.brisk_loops.proofs.Applied.{Applies}
 use Rattle.brisk_loops.proofs.Control.{Weaker, sides}
 use Rattle.brisk_loops.proofs.For.{Loop, Entry, Exit, for_start, after_for}
 use Rattle.brisk_loops.proofs.Gather.{Gathers, Gathered, gather_start}
+use Rattle.brisk_loops.proofs.Kept.{Tidy}
 use Rattle.brisk_loops.proofs.Loops.{Restored}
 use Rattle.brisk_loops.proofs.Middle.{set_at}
 use Rattle.brisk_loops.proofs.Pick.{MayPick, Picked, pick_start, after_pick}
@@ -114,7 +115,7 @@ module _ (P : Program) where
       by_pick : (t : Name) (drops : List Fact) (A : Steps) (S start E S' : Symbolic) (X : Items) (a : AnyReceive) → is_nonempty P a.set ≡ true → Pickings S start E S' t a →
           Takes_steps A start X E → Takes_step (step.Pick t drops A) S (item.Pick a.set X ⨟ nothing) S'
 
-    -- steps lead from a state to another, one after the other, and give these items
+    -- Steps lead from a state to another, one after the other, and give these items. Each begins in a tidy state.
     pub data Takes_steps : Steps → Symbolic → Items → Symbolic → Type 0 where
       ended : (S : Symbolic) → Takes_steps no_steps S nothing S
-      next : (A : Step) (B : Steps) (S S' S'' : Symbolic) (X Y : Items) → Takes_step A S X S' → Takes_steps B S' Y S'' → Takes_steps (A ▷ B) S (X followed_by Y) S''
+      next : (A : Step) (B : Steps) (S S' S'' : Symbolic) (X Y : Items) → Tidy P (reading S) → (reading S').mode ≡ (reading S).mode → Takes_step A S X S' → Takes_steps B S' Y S'' → Takes_steps (A ▷ B) S (X followed_by Y) S''

@@ -26,7 +26,7 @@ int_is (value.Int n) e = (n, refl)
 int_is (value.Bool b) e = cc
 int_is (value.Tag f t) e = cc
 
-bool_is : (v : Value) → kind_of v ≡ kind.Bool → (b : Bool) × (v ≡ value.Bool b)
+pub bool_is : (v : Value) → kind_of v ≡ kind.Bool → (b : Bool) × (v ≡ value.Bool b)
 bool_is (value.Int n) e = cc
 bool_is (value.Bool b) e = (b, refl)
 bool_is (value.Tag f t) e = cc

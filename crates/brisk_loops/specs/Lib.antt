@@ -4,6 +4,7 @@ pub mod Does
 pub mod Examples
 pub mod Faithful
 pub mod Heads
+pub mod Laws
 pub mod Protocols
 pub mod Rules
 pub mod Samples

@@ -159,11 +159,11 @@ module _ (P : Program) (typed : IsProgramWellTyped P) (strict : (c : Name) → i
     )
 
 -- the sequential program has P's roles, but for their codes
-stripped : (roles : List RoleText) (n : Name) → role_named (map without_code roles) n ≡ option_map without_code (role_named roles n)
+pub stripped : (roles : List RoleText) (n : Name) → role_named (map without_code roles) n ≡ option_map without_code (role_named roles n)
 stripped [] n = refl
 stripped (r ∷ rs) n = elim (same_name n r.name) as (λ b. (if b then Some (without_code r) else role_named (map without_code rs) n) ≡ option_map without_code (if b then Some r else role_named rs n)) [ true ↦ refl | false ↦ stripped rs n ]
 
-same_decls : (o : Option RoleText) → decls_of (option_map without_code o) ≡ decls_of o
+pub same_decls : (o : Option RoleText) → decls_of (option_map without_code o) ≡ decls_of o
 same_decls None = refl
 same_decls (Some r) = refl
 

@@ -5,6 +5,6 @@ mod laws;
 mod small_programs;
 mod why;
 
-pub use laws::{ends_are_done, valid_is_faithful};
+pub use laws::{ends_are_done, valid_is_faithful, valid_is_well_typed};
 pub use small_programs::{derivations, examples};
 pub use why::Why;

@@ -1,5 +1,5 @@
 -- One silent event of each of some threads.
-use Rattle.std.proofs.Common.{◌≡◌, ℕ, Bool, true, false, List, [], ◌∷◌, Option, None, refl, sym, ap, ◌∙◌, subst}
+use Rattle.std.proofs.Common.{◌≡◌, ℕ, Bool, true, false, List, [], ◌∷◌, ◌++◌, map, Option, None, refl, sym, ap, ◌∙◌, subst}
 use Rattle.std.specs.Prelude.{if◌then◌else◌}
 use Rattle.brisk_values.specs.declared.value.Pid.{Pid}
 use Rattle.brisk_values.specs.declared.value.Value.{Value}
@@ -9,6 +9,8 @@ use Rattle.brisk_values.proofs.Changes.{name_laws, exact_name}
 use Rattle.brisk_syntax.specs.Declarations.{is_loose}
 use Rattle.brisk_syntax.specs.Syntax.{Code, ◌then◌}
 use Rattle.brisk_seq.specs.Sequential.{Focus}
+use Rattle.brisk_async.specs.declared.event.Event.{Event}
+use Rattle.brisk_async.specs.Laws.{plain_event}
 use Rattle.brisk_async.specs.Machine.{View, effect, goes_to, seen_by, Queue, payload_at}
 use Rattle.brisk_state.specs.declared.thread.Mode.{Mode}
 use Rattle.brisk_loops.proofs.Compose.{still_then}
@@ -49,10 +51,11 @@ view world own front = record { sizes = world.given.sizes; loose = is_loose worl
 abbrev pub Goes_on : World → Focus → Name → Code → Code → Type 0
 Goes_on world φ t from to = (own : Name → Option Value) (front : Queue → ℕ → Option (List Value)) → effect (view world own front) (φ t) from None None ≡ goes_to to
 
-pub record Advanced (world : World) (S : Reading) (κ : Pid → Code) (φ : Focus) (c : Conf) : Type 0 where
+pub record Advanced (world : World) (S : Reading) (κ : Pid → Code) (φ : Focus) (c : Conf) (by : List Event) : Type 0 where
   pub to : Conf
   pub same_mem : mem to ≡ mem c
   pub leads : Leads world c to
+  pub schedule : leads.by ≡ by
   pub fits : Fits world S κ φ to
   pub still : Still world S.mode φ c to
 
@@ -61,7 +64,7 @@ module _ (world : World) (S : Reading) (φ : Focus) (picks : Picks S.mode φ) (t
   with_here passed t u x y z h =
       elim (same_name t u) as (λ b. same_name t u ≡ b → (if b then x else (if passed u then y else z)) ≡ (if (if b then true else passed u) then y else z)) [ true ↦ h | false ↦ λ e. refl ] refl
 
-  one_more : (passed : Test) (t : Name) → is_active (S.mode t) ≡ true → passed t ≡ false → wanted t ≡ true → (c : Conf) → Fits world (stage S to passed) (follow κ κ' passed) φ c → Advanced world (stage S to (with_test passed t)) (follow κ κ' (with_test passed t)) φ c
+  one_more : (passed : Test) (t : Name) → is_active (S.mode t) ≡ true → passed t ≡ false → wanted t ≡ true → (c : Conf) → Fits world (stage S to passed) (follow κ κ' passed) φ c → Advanced world (stage S to (with_test passed t)) (follow κ κ' (with_test passed t)) φ c (plain_event (φ t) ∷ [])
   one_more passed t act fresh wants c f =
       let S1 = stage S to passed in
       let old : follow κ κ' passed (φ t) ≡ κ (φ t) = ap (λ z. if passed z then κ' (φ t) else κ (φ t)) (picks.role_of t) ∙ ap (λ b. if b then κ' (φ t) else κ (φ t)) fresh in
@@ -79,12 +82,13 @@ module _ (world : World) (S : Reading) (φ : Focus) (picks : Picks S.mode φ) (t
         to = x.to;
         same_mem = x.same_mem;
         leads = x.leads;
+        schedule = x.one;
         fits = subst (λ (Z : Reading). Fits world Z (follow κ κ' (with_test passed t)) φ x.to) path x.fits;
         still = x.still;
       }
 
-  pub advance : (ts : List Name) (passed : Test) → Once S.mode wanted passed ts → (c : Conf) → Fits world (stage S to passed) (follow κ κ' passed) φ c → Advanced world (stage S to (all_of passed ts)) (follow κ κ' (all_of passed ts)) φ c
-  advance [] passed once c f = record { to = c; same_mem = refl; leads = stays world c; fits = f; still = record { code = λ p d. refl; store = λ p d. refl; sent = λ p q d C. refl; got = λ p q d C. refl; box_sent = λ p q d n. refl; box_got = λ p q d n. refl } }
+  pub advance : (ts : List Name) (passed : Test) → Once S.mode wanted passed ts → (c : Conf) → Fits world (stage S to passed) (follow κ κ' passed) φ c → Advanced world (stage S to (all_of passed ts)) (follow κ κ' (all_of passed ts)) φ c (map (λ t. plain_event (φ t)) ts)
+  advance [] passed once c f = record { to = c; same_mem = refl; leads = stays world c; schedule = refl; fits = f; still = record { code = λ p d. refl; store = λ p d. refl; sent = λ p q d C. refl; got = λ p q d C. refl; box_sent = λ p q d n. refl; box_got = λ p q d n. refl } }
   advance (t ∷ ts) passed once c f =
       let x = one_more passed t once.0 once.1 once.2 c f in
       let y = advance ts (with_test passed t) once.3 x.to x.fits in
@@ -92,6 +96,7 @@ module _ (world : World) (S : Reading) (φ : Focus) (picks : Picks S.mode φ) (t
         to = y.to;
         same_mem = y.same_mem ∙ x.same_mem;
         leads = then_leads world c x.to y.to x.leads y.leads;
+        schedule = λ i. x.schedule i ++ y.schedule i;
         fits = y.fits;
         still = still_then world S.mode φ c x.to y.to x.still y.still;
       }

@@ -12,6 +12,8 @@ use Rattle.brisk_syntax.specs.Stores.{stored, with_variables}
 use Rattle.brisk_syntax.specs.Syntax.{Expression, Assign, Send, Recv, Code, ◌⨾◌, ◌then◌}
 use Rattle.brisk_syntax.specs.Value.{value_of}
 use Rattle.brisk_seq.specs.Sequential.{Focus, with_box}
+use Rattle.brisk_async.specs.declared.event.Event.{Event}
+use Rattle.brisk_async.specs.Laws.{plain_event}
 use Rattle.brisk_async.specs.Machine.{Payload, queue, partner, payload_at, place_of, takes, effect, seen_by, unchanged, appended, taken}
 use Rattle.brisk_facts.specs.Learning.{fold}
 use Rattle.brisk_facts.proofs.Folding.{fold_value}
@@ -26,7 +28,7 @@ use Rattle.brisk_loops.proofs.Events.{Unique}
 use Rattle.brisk_loops.proofs.Fits.{World, Conf, Picks, active_live}
 use Rattle.brisk_loops.proofs.Leads.{state, event_leads, quiet_leads}
 use Rattle.brisk_loops.proofs.Readings.{Reading, is_active, has, who_by, code_by, stands_by, facts_with, forgotten}
-use Rattle.brisk_loops.proofs.Sound.{Typing, Sound, sound_going}
+use Rattle.brisk_loops.proofs.Sound.{Typing, Sound, Going, sound_going}
 
 -- a partner in focus or single is the thread's process
 pub partner_is : (mode : Name → Option Mode) (φ : Focus) (u : Name) (m : Option Mode) (w : Who) → Picks mode φ → mode u ≡ m → stands_by m u w ≡ true → partner (who_by φ w) ≡ φ u
@@ -56,9 +58,8 @@ takes_oldest world c p q C xs w K m is front =
     ∙ ap (takes (queue q p C) xs K 0) front
 
 module _ (world : World) (T : Typing world) (S : Reading) (t : Name) (act : is_active (S.mode t) ≡ true) where
-  pub sound_assign : (x : Name) (e : Expression) (k : Code) → S.code t ≡ Assign x e ⨾ k → Sound world T S (seq.passes world.given t (x ∷ []) t (e ∷ [])) (after_assign S t x e k)
-  sound_assign x e k is =
-      sound_going world T S (seq.passes world.given t (x ∷ []) t (e ∷ [])) (after_assign S t x e k) (λ κ φ c typed picks f.
+  pub goes_assign : (x : Name) (e : Expression) (k : Code) → S.code t ≡ Assign x e ⨾ k → Going world T S (seq.passes world.given t (x ∷ []) t (e ∷ [])) (after_assign S t x e k) (λ φ. plain_event (φ t) ∷ [])
+  goes_assign x e k is κ φ c typed picks f =
       let vs = value_of world.given.sizes (c.store (φ t)) e ∷ [] in record {
         to = record {
           code = changed same_process c.code (φ t) (code_by φ k then κ (φ t));
@@ -69,6 +70,7 @@ module _ (world : World) (T : Typing world) (S : Reading) (t : Name) (act : is_a
         leads =
             event_leads world c (φ t) (Assign x e ⨾ (code_by φ k then κ (φ t))) record { next = code_by φ k then κ (φ t); variables = x ∷ []; values = vs; mail = unchanged } c.box
             (events.own_code world S κ φ c picks t act f ∙ ap (λ z. code_by φ z then κ (φ t)) is) refl;
+        schedule = refl;
         does = refl;
         alone = λ m r. sym r;
         fits = record {
@@ -87,14 +89,16 @@ module _ (world : World) (T : Typing world) (S : Reading) (t : Name) (act : is_a
           box_sent = λ p q d n. refl;
           box_got = λ p q d n. refl;
         };
-      })
+      }
+
+  pub sound_assign : (x : Name) (e : Expression) (k : Code) → S.code t ≡ Assign x e ⨾ k → Sound world T S (seq.passes world.given t (x ∷ []) t (e ∷ [])) (after_assign S t x e k)
+  sound_assign x e k is = sound_going world T S (seq.passes world.given t (x ∷ []) t (e ∷ [])) (after_assign S t x e k) (λ φ. plain_event (φ t) ∷ []) (goes_assign x e k is)
 
 module _ (world : World) (T : Typing world) (S : Reading) (t u : Name) (C : Name) where
-  pub sound_fill : (n : ℕ) (es : List Expression) (w : Who) (k : Code) → is_active (S.mode t) ≡ true → S.code t ≡ Send C es w ⨾ k → stands_by (S.mode u) u w ≡ true →
-      ((l : Key) → has n (S.pending l) ≡ false) → Sound world T S (seq.fills world.given n t u es) (after_fill S t u C n k)
-  sound_fill n es w k act is stands unused =
+  pub goes_fill : (n : ℕ) (es : List Expression) (w : Who) (k : Code) → is_active (S.mode t) ≡ true → S.code t ≡ Send C es w ⨾ k → stands_by (S.mode u) u w ≡ true →
+      ((l : Key) → has n (S.pending l) ≡ false) → Going world T S (seq.fills world.given n t u es) (after_fill S t u C n k) (λ φ. plain_event (φ t) ∷ [])
+  goes_fill n es w k act is stands unused κ φ c typed picks f =
       let act_u = stands_active (S.mode u) u w stands in
-      sound_going world T S (seq.fills world.given n t u es) (after_fill S t u C n k) (λ κ φ c typed picks f.
       let vs = map (value_of world.given.sizes (c.store (φ t))) es in
       let live_t = active_live world S.mode φ t picks act in let live_u = active_live world S.mode φ u picks act_u in
       let no_box : c.box n (φ t) (φ u) ≡ None = f.empty (φ t) (φ u) live_t live_u n (λ D. unused (key (φ t).role (φ u).role D)) in record {
@@ -108,6 +112,7 @@ module _ (world : World) (T : Typing world) (S : Reading) (t u : Name) (C : Name
             quiet_leads world c (φ t) (Send C es (who_by φ w) ⨾ (code_by φ k then κ (φ t))) (code_by φ k then κ (φ t)) (appended (queue (φ t) (φ u) C) vs) (events.sent_box world S κ φ c picks t act u act_u C n vs)
             (events.own_code world S κ φ c picks t act f ∙ ap (λ z. code_by φ z then κ (φ t)) is)
             (λ i. Some record { next = code_by φ k then κ (φ t); variables = []; values = []; mail = appended (queue (φ t) (partner_is S.mode φ u (S.mode u) w picks refl stands i) C) vs });
+        schedule = refl;
         does = (no_box, refl);
         alone = λ m r. sym r.1;
         fits = record {
@@ -125,13 +130,16 @@ module _ (world : World) (T : Typing world) (S : Reading) (t u : Name) (C : Name
           box_sent = events.still_box_sent world S κ φ c picks t act u act_u C n _;
           box_got = events.still_box_got world S κ φ c picks t act u act_u C n _;
         };
-      })
+      }
 
-  pub sound_take : (n : ℕ) (ns : List ℕ) (xs : List Name) (w : Who) (k : Code) → Unique S.pending → is_active (S.mode u) ≡ true → S.code u ≡ Recv C xs w ⨾ k → stands_by (S.mode t) t w ≡ true →
-      S.pending (key t u C) ≡ n ∷ ns → Sound world T S (seq.takes world.given u xs n t) (after_take S t u C xs ns k)
-  sound_take n ns xs w k once act_u is stands pends =
+  pub sound_fill : (n : ℕ) (es : List Expression) (w : Who) (k : Code) → is_active (S.mode t) ≡ true → S.code t ≡ Send C es w ⨾ k → stands_by (S.mode u) u w ≡ true →
+      ((l : Key) → has n (S.pending l) ≡ false) → Sound world T S (seq.fills world.given n t u es) (after_fill S t u C n k)
+  sound_fill n es w k act is stands unused = sound_going world T S (seq.fills world.given n t u es) (after_fill S t u C n k) (λ φ. plain_event (φ t) ∷ []) (goes_fill n es w k act is stands unused)
+
+  pub goes_take : (n : ℕ) (ns : List ℕ) (xs : List Name) (w : Who) (k : Code) → Unique S.pending → is_active (S.mode u) ≡ true → S.code u ≡ Recv C xs w ⨾ k → stands_by (S.mode t) t w ≡ true →
+      S.pending (key t u C) ≡ n ∷ ns → Going world T S (seq.takes world.given u xs n t) (after_take S t u C xs ns k) (λ φ. plain_event (φ u) ∷ [])
+  goes_take n ns xs w k once act_u is stands pends κ φ c typed picks f =
       let act = stands_active (S.mode t) t w stands in
-      sound_going world T S (seq.takes world.given u xs n t) (after_take S t u C xs ns k) (λ κ φ c typed picks f.
       let o = events.oldest_is world S κ φ c picks t act u act_u C n ns f once pends in
       let K = code_by φ k then κ (φ u) in
       let code_is : c.code (φ u) ≡ Recv C xs (who_by φ w) ⨾ K = events.own_code world S κ φ c picks u act_u f ∙ ap (λ z. code_by φ z then κ (φ u)) is in
@@ -146,6 +154,7 @@ module _ (world : World) (T : Typing world) (S : Reading) (t u : Name) (C : Name
             event_leads world c (φ u) (Recv C xs (who_by φ w) ⨾ K)
             record { next = K; variables = xs; values = o.0; mail = taken (queue (φ t) (φ u) C) 0 } (events.taken_box world S κ φ c picks t act u act_u C n ns) code_is
             (takes_oldest world c (φ u) (φ t) C xs (who_by φ w) K o.0 (partner_is S.mode φ t (S.mode t) w picks refl stands) front);
+        schedule = refl;
         does = (o.0, o.3, T.finds c (φ u) (φ t) C xs (who_by φ w) K o.0 typed code_is front, refl);
         alone = λ m r.
             let v = same_Some o.0 r.0 (sym o.3 ∙ r.1) in
@@ -166,4 +175,8 @@ module _ (world : World) (T : Typing world) (S : Reading) (t u : Name) (C : Name
           box_sent = events.still_box_sent world S κ φ c picks t act u act_u C n _;
           box_got = events.still_box_got world S κ φ c picks t act u act_u C n _;
         };
-      })
+      }
+
+  pub sound_take : (n : ℕ) (ns : List ℕ) (xs : List Name) (w : Who) (k : Code) → Unique S.pending → is_active (S.mode u) ≡ true → S.code u ≡ Recv C xs w ⨾ k → stands_by (S.mode t) t w ≡ true →
+      S.pending (key t u C) ≡ n ∷ ns → Sound world T S (seq.takes world.given u xs n t) (after_take S t u C xs ns k)
+  sound_take n ns xs w k once act_u is stands pends = sound_going world T S (seq.takes world.given u xs n t) (after_take S t u C xs ns k) (λ φ. plain_event (φ u) ∷ []) (goes_take n ns xs w k once act_u is stands pends)

@@ -1,5 +1,5 @@
 -- A for over a set, by owners.
-use Rattle.std.proofs.Common.{◌≡◌, ℕ, suc, zero, ◌+◌, Bool, true, false, List, [], ◌∷◌, ◌++◌, Option, Some, None, refl, sym, ap, ◌∙◌, subst, arith, nat_eq, zero-add, add-zero}
+use Rattle.std.proofs.Common.{◌≡◌, ℕ, suc, zero, ◌+◌, Bool, true, false, List, [], ◌∷◌, ◌++◌, map, Option, Some, None, refl, sym, ap, ◌∙◌, subst, arith, nat_eq, zero-add, add-zero}
 use Rattle.std.specs.Prelude.{◌&&◌, ◌||◌, if◌then◌else◌, nat_lt}
 use Rattle.std.proofs.lemmas.Bool.{le-ltb, lt-ltb}
 use Rattle.std.proofs.lemmas.Bool.Decides.{nat_tests}
@@ -11,7 +11,7 @@ use Rattle.brisk_syntax.specs.Substitution.{code_with}
 use Rattle.brisk_syntax.specs.Syntax.{For, Code, done, ◌⨾◌, ◌then◌}
 use Rattle.brisk_seq.specs.Sequential.{Focus, in_focus}
 use Rattle.brisk_async.specs.declared.event.Event.{Event}
-use Rattle.brisk_async.specs.Laws.{count}
+use Rattle.brisk_async.specs.Laws.{plain_event, count}
 use Rattle.brisk_async.specs.Machine.{State, effect, goes_to, run, IsTerminal}
 use Rattle.brisk_state.specs.declared.thread.Mode.{Mode}
 use Rattle.brisk_state.specs.declared.thread.Mode.TheVariants as thread_mode
@@ -152,7 +152,7 @@ module _ (world : World) (T : Typing world) (S : Reading) (s : Name) (ts : List 
   behind_turn k p = code_by φ (at_turn S s ts L (k + 1) p.role) then κ p
 
   abbrev Begun : ℕ → Conf → Type 0
-  Begun k c = Advanced world (for_start S s ts L) (follow κ (behind_turn k) (owners ts)) (in_focus s k φ) c
+  Begun k c = Advanced world (for_start S s ts L) (follow κ (behind_turn k) (owners ts)) (in_focus s k φ) c (map (λ t. plain_event (in_focus s k φ t)) ts)
 
   at_is : (k : ℕ) (t : Name) → owners ts t ≡ true → at_turn S s ts L k t ≡ For (L t).binder s k (L t).body ⨾ (L t).rest
   at_is k t e = ap (λ b. if b then For (L t).binder s k (L t).body ⨾ (L t).rest else S.code t) e
@@ -160,7 +160,7 @@ module _ (world : World) (T : Typing world) (S : Reading) (s : Name) (ts : List 
   at_end : (k : ℕ) (t : Name) → owners ts t ≡ false → at_turn S s ts L k t ≡ S.code t
   at_end k t e = ap (λ b. if b then For (L t).binder s k (L t).body ⨾ (L t).rest else S.code t) e
 
-  turn_event : (k : ℕ) → nat_lt k (world.given.sizes s) ≡ true → (t : Name) → owners ts t ≡ true →
+  pub turn_event : (k : ℕ) → nat_lt k (world.given.sizes s) ≡ true → (t : Name) → owners ts t ≡ true →
       Goes_on world (in_focus s k φ) t (code_by (in_focus s k φ) (at_turn S s ts L k t) then κ (in_focus s k φ t)) (code_by (in_focus s k φ) (for_body S s ts L t) then behind_turn k (in_focus s k φ t))
   turn_event k inside t e mine front =
       let ψ = in_focus s k φ in let p = ψ t in let v = (L t).binder in
@@ -175,18 +175,18 @@ module _ (world : World) (T : Typing world) (S : Reading) (s : Name) (ts : List 
   fresh_turn k = le-ltb k k (omega arith)
 
   -- each owner's event at the beginning of a turn
-  begin_turn : (k : ℕ) → nat_lt k (world.given.sizes s) ≡ true → (c : Conf) → Middle k c → Begun k c
+  pub begin_turn : (k : ℕ) → nat_lt k (world.given.sizes s) ≡ true → (c : Conf) → Middle k c → Begun k c
   begin_turn k inside c mid =
       let ψ = in_focus s k φ in
       let Z = in_turn S s (at_turn S s ts L k) in
       let x = advance world Z ψ (picks_in S.mode s φ k picks) (for_body S s ts L) κ (behind_turn k) (owners ts) (turn_event k inside) ts (λ _. false)
       (once_in S.mode s (owners ts) (λ _. false) ts entry.once) c
       (enters world S s φ E k entry.set inside (below k) (fresh_turn k) (at_turn S s ts L k) κ c mid (free_turn k)) in
-      subst (λ (W : Reading). Advanced world W (follow κ (behind_turn k) (owners ts)) ψ c)
+      subst (λ (W : Reading). Advanced world W (follow κ (behind_turn k) (owners ts)) ψ c (map (λ t. plain_event (ψ t)) ts))
       (λ i. record S { mode = focused S.mode s; code = λ u. if_same (owners ts u) (for_body S s ts L u) (For (L u).binder s k (L u).body ⨾ (L u).rest) (S.code u) i }) x
 
   -- a premise's end is the middle at the next turn
-  end_turn : (k : ℕ) → nat_lt k (world.given.sizes s) ≡ true → (c d : Conf) → Middle k c → Fits world E (follow κ (behind_turn k) (owners ts)) (in_focus s k φ) d → Still world (focused S.mode s) (in_focus s k φ) c d → Middle (k + 1) d
+  pub end_turn : (k : ℕ) → nat_lt k (world.given.sizes s) ≡ true → (c d : Conf) → Middle k c → Fits world E (follow κ (behind_turn k) (owners ts)) (in_focus s k φ) d → Still world (focused S.mode s) (in_focus s k φ) c d → Middle (k + 1) d
   end_turn k inside c d mid f still =
       subst (λ (v : Served). Mid world S s φ E v (at_turn S s ts L (k + 1)) κ d) (below_next k)
       (ends world S s φ E k entry.set inside (below k) (fresh_turn k) (at_turn S s ts L k) κ c mid exit.closes (at_turn S s ts L (k + 1)) (follow κ (behind_turn k) (owners ts)) d
@@ -208,7 +208,7 @@ module _ (world : World) (T : Typing world) (S : Reading) (s : Name) (ts : List 
     pub mid : Middle k d
     pub still : Still world S.mode φ c d
 
-  comes : (k : ℕ) (inside : nat_lt k (world.given.sizes s) ≡ true) (c d : Conf) (u : List Event) → Middle k c → (x : Begun k c) → Arrives world T (for_start S s ts L) E (follow κ (behind_turn k) (owners ts)) (in_focus s k φ) x.to d u → Comes (k + 1) c d (x.leads.by ++ u)
+  pub comes : (k : ℕ) (inside : nat_lt k (world.given.sizes s) ≡ true) (c d : Conf) (u : List Event) → Middle k c → (x : Begun k c) → Arrives world T (for_start S s ts L) E (follow κ (behind_turn k) (owners ts)) (in_focus s k φ) x.to d u → Comes (k + 1) c d (x.leads.by ++ u)
   comes k inside c d u mid x a =
       let still = still_then world (focused S.mode s) (in_focus s k φ) c x.to d x.still a.still in
       record {
@@ -310,12 +310,12 @@ module _ (world : World) (T : Typing world) (S : Reading) (s : Name) (ts : List 
       (λ i. effect (view world mine front) (φ t) (code_by φ (if not_set t e i then E.code s else at_is (world.given.sizes s) t e i) then κ (φ t)) None None)
       ∙ (λ i. goes_to (if fresh_turn (world.given.sizes s) i then code_with (L t).binder (who.Pid (member s (world.given.sizes s))) (code_by φ (L t).body) then (For (L t).binder s (world.given.sizes s + 1) (code_by φ (L t).body) ⨾ (code_by φ (L t).rest then κ (φ t))) else (code_by φ (L t).rest then κ (φ t))))
 
-  leave : (c : Conf) → Middle (world.given.sizes s) c → Advanced world (after_for S s ts L E) κ φ c
+  pub leave : (c : Conf) → Middle (world.given.sizes s) c → Advanced world (after_for S s ts L E) κ φ c (map (λ t. plain_event (φ t)) ts)
   leave c mid =
       let W = set_ends S s ts L E (at_turn S s ts L (world.given.sizes s)) in
       let x = advance world W φ picks (λ u. (L u).rest) κ κ (owners ts) leave_event ts (λ _. false) entry.once c (last c mid) in
-      subst (λ (κ' : Pid → Code). Advanced world (after_for S s ts L E) κ' φ c) (λ i q. if_const (owners ts q.role) (κ q) i)
-      (subst (λ (Z : Reading). Advanced world Z (follow κ κ (owners ts)) φ c) (λ i. record W { code = λ u. codes u i }) x)
+      subst (λ (κ' : Pid → Code). Advanced world (after_for S s ts L E) κ' φ c (map (λ t. plain_event (φ t)) ts)) (λ i q. if_const (owners ts q.role) (κ q) i)
+      (subst (λ (Z : Reading). Advanced world Z (follow κ κ (owners ts)) φ c (map (λ t. plain_event (φ t)) ts)) (λ i. record W { code = λ u. codes u i }) x)
     where
       codes : (u : Name) → (if owners ts u then (L u).rest else (if same_name s u then E.code s else at_turn S s ts L (world.given.sizes s) u)) ≡ (if same_name s u then E.code s else (if owners ts u then (L u).rest else S.code u))
       codes u =
@@ -324,7 +324,7 @@ module _ (world : World) (T : Typing world) (S : Reading) (s : Name) (ts : List 
             | false ↦ λ e. refl
           ] refl
 
-  done_for : (c d : Conf) (u : List Event) → Comes (world.given.sizes s) c d u → (x : Advanced world (after_for S s ts L E) κ φ d) → Arrives world T S (after_for S s ts L E) κ φ c x.to (u ++ x.leads.by)
+  done_for : (c d : Conf) (u : List Event) → Comes (world.given.sizes s) c d u → (x : Advanced world (after_for S s ts L E) κ φ d (map (λ t. plain_event (φ t)) ts)) → Arrives world T S (after_for S s ts L E) κ φ c x.to (u ++ x.leads.by)
   done_for c d u a x = record {
     runs = runs-append world c d x.to u x.leads.by a.runs x.leads.runs;
     fits = x.fits;

@@ -47,7 +47,7 @@ rest-append world d e t u s z a b = record {
 pub runs-append : (world : World) (c d e : Conf) (t u : List Event) → run (state world c) t ≡ Some (state world d) → run (state world d) u ≡ Some (state world e) → run (state world c) (t ++ u) ≡ Some (state world e)
 runs-append world c d e t u a b = run-append (state world c) t u ∙ ap (option_and_then (λ z. run z u)) a ∙ b
 
-pub then_leads : (world : World) (c d e : Conf) → Leads world c d → Leads world d e → Leads world c e
+abbrev pub then_leads : (world : World) (c d e : Conf) → Leads world c d → Leads world d e → Leads world c e
 then_leads world c d e a b = record {
   by = a.by ++ b.by;
   runs = runs-append world c d e a.by b.by a.runs b.runs;

@@ -24,7 +24,7 @@ use Rattle.brisk_loops.proofs.Events as events
 use Rattle.brisk_loops.proofs.Fits.{World, Conf, mem, live, Picks, Fits, sole}
 use Rattle.brisk_loops.proofs.Leads.{state, Rest, rest-append, count-append}
 use Rattle.brisk_loops.proofs.Readings.{Reading, is_active, is_each, has, code_by, Known}
-use Rattle.brisk_loops.proofs.Sound.{Typing, Sound, Arrives, sound_going}
+use Rattle.brisk_loops.proofs.Sound.{Typing, Sound, Arrives, Going, sound_going}
 use Rattle.brisk_loops.proofs.After.{goes_on, at_guard}
 use Rattle.brisk_loops.proofs.Control.{code_then, Silent, silent, sides, lead_arrives, guard_event, not_both}
 use Rattle.brisk_loops.proofs.Branch.{if_effect}
@@ -40,30 +40,33 @@ while_effect : (v : View) (p : Pid) (φ : Focus) (e : Expression) (b rest κ : C
 while_effect v p φ e b rest κ g i = ap (λ t. goes_to (if t then code_by φ b then (code_by φ (While e b ⨾ rest) then κ) else code_by φ rest then κ)) i
 
 module _ (world : World) (T : Typing world) (S : Reading) (t : Name) (act : is_active (S.mode t) ≡ true) where
-  sound_silent : (k : Code) →
+  -- its event is the plain one, where that goes on to the code
+  goes_silent : (k : Code) →
       ((κ : Pid → Code) (φ : Focus) (c : Conf) → Picks S.mode φ → Fits world S κ φ c → effect (seen_by (state world c) (φ t)) (φ t) (code_by φ (S.code t) then κ (φ t)) None None ≡ goes_to (code_by φ k then κ (φ t))) →
-      Sound world T S seq.stays (goes_on S t k)
-  sound_silent k h =
-      sound_going world T S seq.stays (goes_on S t k) (λ κ φ c typed picks f.
+      Going world T S seq.stays (goes_on S t k) (λ φ. plain_event (φ t) ∷ [])
+  goes_silent k h κ φ c typed picks f =
       let x = silent world S κ κ φ c picks t act f record { same = λ q l d. refl } k (S.facts t) (events.own_facts world S κ φ c picks t act f) (h κ φ c picks f) in record {
         to = x.to;
         leads = x.leads;
+        schedule = x.one;
         does = x.same_mem;
         alone = λ m r. x.same_mem ∙ sym r;
         fits = subst (λ (g : Name → Known). Fits world (record S { code = changed same_name S.code t k; facts = g }) κ φ x.to) (facts_back S.facts t) x.fits;
         still = x.still;
-      })
+      }
 
-  pub sound_known_if : (s : Statement) (e : Expression) (a b rest : Code) → S.code t ≡ s ⨾ rest → sides s ≡ Some (e, a, b) → (v : Value) → fold (S.facts t) e ≡ Some v → Sound world T S seq.stays (goes_on S t (if is_true v then a then rest else b then rest))
-  sound_known_if s e a b rest is has v known =
-      sound_silent (if is_true v then a then rest else b then rest) (λ κ φ c picks f.
+  pub goes_known_if : (s : Statement) (e : Expression) (a b rest : Code) → S.code t ≡ s ⨾ rest → sides s ≡ Some (e, a, b) → (v : Value) → fold (S.facts t) e ≡ Some v →
+      Going world T S seq.stays (goes_on S t (if is_true v then a then rest else b then rest)) (λ φ. plain_event (φ t) ∷ [])
+  goes_known_if s e a b rest is has v known =
+      goes_silent (if is_true v then a then rest else b then rest) (λ κ φ c picks f.
       ap (λ z. effect (seen_by (state world c) (φ t)) (φ t) (code_by φ z then κ (φ t)) None None) is
       ∙ if_effect (seen_by (state world c) (φ t)) (φ t) φ s e a b rest (κ (φ t)) has (is_true v)
       (ap is_true (fold_value world.given.sizes (c.store (φ t)) (S.facts t) (events.own_facts world S κ φ c picks t act f) e v known)))
 
-  pub sound_known_while : (e : Expression) (b rest : Code) → S.code t ≡ While e b ⨾ rest → (v : Value) → fold (S.facts t) e ≡ Some v → Sound world T S seq.stays (goes_on S t (if is_true v then b then S.code t else rest))
-  sound_known_while e b rest is v known =
-      sound_silent (if is_true v then b then S.code t else rest) (λ κ φ c picks f.
+  pub goes_known_while : (e : Expression) (b rest : Code) → S.code t ≡ While e b ⨾ rest → (v : Value) → fold (S.facts t) e ≡ Some v →
+      Going world T S seq.stays (goes_on S t (if is_true v then b then S.code t else rest)) (λ φ. plain_event (φ t) ∷ [])
+  goes_known_while e b rest is v known =
+      goes_silent (if is_true v then b then S.code t else rest) (λ κ φ c picks f.
       ap (λ z. effect (seen_by (state world c) (φ t)) (φ t) (code_by φ z then κ (φ t)) None None) is
       ∙ while_effect (seen_by (state world c) (φ t)) (φ t) φ e b rest (κ (φ t)) (is_true v)
       (ap is_true (fold_value world.given.sizes (c.store (φ t)) (S.facts t) (events.own_facts world S κ φ c picks t act f) e v known))
@@ -72,6 +75,12 @@ module _ (world : World) (T : Typing world) (S : Reading) (t : Name) (act : is_a
       goes : (φ : Focus) (κ : Code) (g : Bool) → goes_to (if g then code_by φ b then (code_by φ (While e b ⨾ rest) then κ) else code_by φ rest then κ) ≡ goes_to (code_by φ (if g then b then S.code t else rest) then κ)
       goes φ κ true = ap goes_to (sym (code_then φ b (While e b ⨾ rest) κ)) ∙ ap (λ z. goes_to (code_by φ (b then z) then κ)) (sym is)
       goes φ κ false = refl
+
+  pub sound_known_if : (s : Statement) (e : Expression) (a b rest : Code) → S.code t ≡ s ⨾ rest → sides s ≡ Some (e, a, b) → (v : Value) → fold (S.facts t) e ≡ Some v → Sound world T S seq.stays (goes_on S t (if is_true v then a then rest else b then rest))
+  sound_known_if s e a b rest is has v known = sound_going world T S seq.stays _ (λ φ. plain_event (φ t) ∷ []) (goes_known_if s e a b rest is has v known)
+
+  pub sound_known_while : (e : Expression) (b rest : Code) → S.code t ≡ While e b ⨾ rest → (v : Value) → fold (S.facts t) e ≡ Some v → Sound world T S seq.stays (goes_on S t (if is_true v then b then S.code t else rest))
+  sound_known_while e b rest is v known = sound_going world T S seq.stays _ (λ φ. plain_event (φ t) ∷ []) (goes_known_while e b rest is v known)
 
 -- the owner at its end, and the rest as it was
 pub record Restored (S E : Reading) (t : Name) : Type 0 where

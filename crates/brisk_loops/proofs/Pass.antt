@@ -1,6 +1,6 @@
 -- A pass is sound: a send, and at once its receive.
-use Rattle.std.proofs.Common.{◌≡◌, true, false, List, [], ◌∷◌, ◌++◌, map, Option, Some, refl, sym, ap, ◌∙◌, subst}
-use Rattle.std.specs.Prelude.{if◌then◌else◌}
+use Rattle.std.proofs.Common.{◌≡◌, true, false, List, [], ◌∷◌, ◌++◌, map, Option, Some, None, refl, sym, ap, ◌∙◌, subst}
+use Rattle.std.specs.Prelude.{if◌then◌else◌, option_map}
 use Rattle.brisk_values.specs.Functions.{changed}
 use Rattle.brisk_values.specs.Names.{Name, same_name, same_process}
 use Rattle.brisk_values.proofs.Changes.{exact_name, changed_again, changed-same}
@@ -8,7 +8,9 @@ use Rattle.brisk_syntax.specs.declared.tree.Who.{Who}
 use Rattle.brisk_syntax.specs.Stores.{stored, with_variables}
 use Rattle.brisk_syntax.specs.Syntax.{Expression, Send, Recv, Code, ◌⨾◌, ◌then◌}
 use Rattle.brisk_syntax.specs.Value.{value_of}
-use Rattle.brisk_async.specs.Machine.{Mail, Payload, Queue, same_queue, queue, payload_at, appended, taken, changed_mail}
+use Rattle.brisk_async.specs.declared.event.Event.{Event}
+use Rattle.brisk_async.specs.Laws.{plain_event}
+use Rattle.brisk_async.specs.Machine.{Mail, Payload, Queue, same_queue, queue, payload_at, appended, taken, changed_mail, effect, seen_by, after}
 use Rattle.brisk_async.proofs.Queues.{queue_laws, exact_queue}
 use Rattle.brisk_facts.specs.Learning.{fold}
 use Rattle.brisk_facts.proofs.Folding.{fold_value}
@@ -20,9 +22,9 @@ use Rattle.brisk_loops.proofs.Basic.{partner_is, takes_oldest}
 use Rattle.brisk_loops.proofs.Events as events
 use Rattle.brisk_loops.proofs.Events.{later}
 use Rattle.brisk_loops.proofs.Fits.{World, Conf, Fits}
-use Rattle.brisk_loops.proofs.Leads.{Leads, then_leads, event_leads, quiet_leads, unchanged_at}
+use Rattle.brisk_loops.proofs.Leads.{state, Leads, then_leads, one_leads, quiet_leads, unchanged_at}
 use Rattle.brisk_loops.proofs.Readings.{Reading, is_active, who_by, code_by, stands_by, facts_with}
-use Rattle.brisk_loops.proofs.Sound.{Typing, Sound, sound_going}
+use Rattle.brisk_loops.proofs.Sound.{Typing, Sound, Going, sound_going}
 
 pub none_left : (l : List Payload) → map {B = Option Payload} Some l ≡ [] → l ≡ []
 none_left [] e = refl
@@ -37,11 +39,10 @@ module _ (world : World) (T : Typing world) (S : Reading) (t u : Name) (C : Name
   abbrev sent : Code → Reading
   sent k = record S { code = changed same_name S.code t k }
 
-  pub sound_pass : (es : List Expression) (w : Who) (k : Code) (xs : List Name) (w' : Who) (k' : Code) → is_active (S.mode t) ≡ true → is_active (S.mode u) ≡ true →
+  pub goes_pass : (es : List Expression) (w : Who) (k : Code) (xs : List Name) (w' : Who) (k' : Code) → is_active (S.mode t) ≡ true → is_active (S.mode u) ≡ true →
       S.code t ≡ Send C es w ⨾ k → stands_by (S.mode u) u w ≡ true → S.code u ≡ Recv C xs w' ⨾ k' → stands_by (S.mode t) t w' ≡ true → S.pending (key t u C) ≡ [] →
-      Sound world T S (seq.passes world.given u xs t es) (after_pass S t u xs es k k')
-  sound_pass es w k xs w' k' act act_u is stands is' stands' empty =
-      sound_going world T S (seq.passes world.given u xs t es) (after_pass S t u xs es k k') (λ κ φ c typed picks f.
+      Going world T S (seq.passes world.given u xs t es) (after_pass S t u xs es k k') (λ φ. plain_event (φ t) ∷ plain_event (φ u) ∷ [])
+  goes_pass es w k xs w' k' act act_u is stands is' stands' empty κ φ c typed picks f =
       let vs = map (value_of world.given.sizes (c.store (φ t))) es in
       let Q = queue (φ t) (φ u) C in
       let K = code_by φ k then κ (φ t) in let K' = code_by φ k' then κ (φ u) in
@@ -58,11 +59,13 @@ module _ (world : World) (T : Typing world) (S : Reading) (t u : Name) (C : Name
       let front : payload_at (c2.mail Q) 0 ≡ Some vs = ap (λ z. payload_at z 0) (changed-same queue_laws c.mail Q (c.mail Q ++ vs ∷ [])) ∙ ap (λ z. payload_at (z ++ vs ∷ []) 0) no_mail in
       let c3 : Conf = record { code = changed same_process c1.code (φ u) K'; store = stored c.store (φ u) xs vs; mail = c.mail; box = c.box } in
       let second : Leads world c2 c3 =
-      subst (λ (z : Mail). Leads world c2 record { code = changed same_process c1.code (φ u) K'; store = stored c.store (φ u) xs vs; mail = z; box = c.box }) (mail_back c.mail Q vs no_mail)
-      (event_leads world c2 (φ u) (Recv C xs (who_by φ w') ⨾ K') record { next = K'; variables = xs; values = vs; mail = taken Q 0 } c.box code_is
-      (takes_oldest world c2 (φ u) (φ t) C xs (who_by φ w') K' vs (partner_is S.mode φ t (S.mode t) w' picks refl stands') front)) in record {
+      one_leads world c2 c3 (φ u)
+      (ap (λ z. option_map (after (state world c2) (φ u)) (effect (seen_by (state world c2) (φ u)) (φ u) z None None)) code_is
+      ∙ ap (option_map (after (state world c2) (φ u))) (takes_oldest world c2 (φ u) (φ t) C xs (who_by φ w') K' vs (partner_is S.mode φ t (S.mode t) w' picks refl stands') front)
+      ∙ (λ i. Some record { program = world.program; sizes = world.given.sizes; code = changed same_process c1.code (φ u) K'; store = stored c.store (φ u) xs vs; mail = mail_back c.mail Q vs no_mail i })) in record {
         to = c3;
         leads = then_leads world c c2 c3 first second;
+        schedule = refl;
         does = refl;
         alone = λ m r. sym r;
         fits = record {
@@ -82,7 +85,7 @@ module _ (world : World) (T : Typing world) (S : Reading) (t u : Name) (C : Name
           box_sent = λ p q d n. refl;
           box_got = λ p q d n. refl;
         };
-      })
+      }
     where
       apart : same_name t u ≡ false
       apart =
@@ -90,3 +93,8 @@ module _ (world : World) (T : Typing world) (S : Reading) (t u : Name) (C : Name
             | true ↦ λ e. let s = ap S.code (exact_name t u e) in cc
             | false ↦ λ e. refl
           ] refl
+
+  pub sound_pass : (es : List Expression) (w : Who) (k : Code) (xs : List Name) (w' : Who) (k' : Code) → is_active (S.mode t) ≡ true → is_active (S.mode u) ≡ true →
+      S.code t ≡ Send C es w ⨾ k → stands_by (S.mode u) u w ≡ true → S.code u ≡ Recv C xs w' ⨾ k' → stands_by (S.mode t) t w' ≡ true → S.pending (key t u C) ≡ [] →
+      Sound world T S (seq.passes world.given u xs t es) (after_pass S t u xs es k k')
+  sound_pass es w k xs w' k' act act_u is stands is' stands' empty = sound_going world T S (seq.passes world.given u xs t es) (after_pass S t u xs es k k') (λ φ. plain_event (φ t) ∷ plain_event (φ u) ∷ []) (goes_pass es w k xs w' k' act act_u is stands is' stands' empty)

@@ -47,17 +47,21 @@ module _ (world : World) (T : Typing world) where
     pub back : (κ : Pid → Code) (φ : Focus) (c : Conf) → T.IsTyped c → Picks S.mode φ → Fits world S κ φ c → (s : List Event) (z : State) → run (state world c) s ≡ Some z → IsTerminal z →
         (d : Conf) × R φ (mem c) (mem d) × (t : List Event) × Arrives S S' κ φ c d t × Rest world d t s z
 
-  -- where there is one way to go on
-  pub record Goes (S : Reading) (R : Does) (S' : Reading) (κ : Pid → Code) (φ : Focus) (c : Conf) : Type 0 where
+  -- where there is one way to go on, by these events
+  pub record Goes (S : Reading) (R : Does) (S' : Reading) (κ : Pid → Code) (φ : Focus) (c : Conf) (by : List Event) : Type 0 where
     pub to : Conf
     pub leads : Leads world c to
+    pub schedule : leads.by ≡ by
     pub does : R φ (mem c) (mem to)
     pub alone : (m : Mem) → R φ (mem c) m → mem to ≡ m
     pub fits : Fits world S' κ φ to
     pub still : Still world S.mode φ c to
 
-  pub sound_going : (S : Reading) (R : Does) (S' : Reading) → ((κ : Pid → Code) (φ : Focus) (c : Conf) → T.IsTyped c → Picks S.mode φ → Fits world S κ φ c → Goes S R S' κ φ c) → Sound S R S'
-  sound_going S R S' h = record {
+  abbrev pub Going : Reading → Does → Reading → (Focus → List Event) → Type 0
+  Going S R S' by = (κ : Pid → Code) (φ : Focus) (c : Conf) → T.IsTyped c → Picks S.mode φ → Fits world S κ φ c → Goes S R S' κ φ c (by φ)
+
+  pub sound_going : (S : Reading) (R : Does) (S' : Reading) (by : Focus → List Event) → Going S R S' by → Sound S R S'
+  sound_going S R S' by h = record {
     there = λ κ φ c y p f m r. let g = h κ φ c y p f in (g.to, g.alone m r, g.leads.by, record { runs = g.leads.runs; fits = g.fits; still = g.still });
     back = λ κ φ c y p f s z r end. let g = h κ φ c y p f in (g.to, g.does, g.leads.by, record { runs = g.leads.runs; fits = g.fits; still = g.still }, g.leads.first s z r end);
   }

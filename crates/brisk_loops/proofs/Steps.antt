@@ -40,9 +40,10 @@ use Rattle.brisk_loops.proofs.Sound.{Typing, Sound, Arrives, sound_going}
 module _ (world : World) (T : Typing world) where
   sound_nothing : (S : Reading) → Sound world T S stays S
   sound_nothing S =
-      sound_going world T S stays S (λ κ φ c typed picks f. record {
+      sound_going world T S stays S (λ φ. []) (λ κ φ c typed picks f. record {
         to = c;
         leads = leads.stays world c;
+        schedule = refl;
         does = refl;
         alone = λ m r. sym r;
         fits = f;

@@ -31,7 +31,7 @@ use Rattle.brisk_loops.proofs.After.{goes_on, after_assign, after_fill, after_ta
 use Rattle.brisk_loops.proofs.Control.{sides}
 use Rattle.brisk_loops.proofs.Events.{false_or}
 use Rattle.brisk_loops.proofs.Lookups.{one_value, some_values, no_values, numbers_with}
-use Rattle.brisk_loops.proofs.Readings.{Reading, reading, is_active, has, stands_by}
+use Rattle.brisk_loops.proofs.Readings.{reading, is_active, has, stands_by}
 use Rattle.brisk_loops.proofs.Threads.{names, modes_with_code, codes_with_code, names_with_code, Moved, moved}
 
 pub at_code : {A : Type 0} (o : Option Code) (go : Code → Result A RuleFault) (a : A) → at_thread o go ≡ Ok a → (c : Code) × (o ≡ Some c) × (go c ≡ Ok a)

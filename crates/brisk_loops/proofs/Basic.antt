@@ -1,10 +1,10 @@
 -- Assign, fill and take are sound.
-use Rattle.std.proofs.Common.{◌≡◌, ℕ, true, false, List, [], ◌∷◌, ◌++◌, map, Option, Some, None, refl, sym, ap, ◌∙◌}
+use Rattle.std.proofs.Common.{◌≡◌, ℕ, true, false, List, [], ◌∷◌, map, Option, Some, None, refl, sym, ap, ◌∙◌}
 use Rattle.std.specs.Prelude.{option_and_then}
 use Rattle.std.proofs.lemmas.Option.{same_Some}
 use Rattle.brisk_values.specs.declared.value.Pid.{Pid}
 use Rattle.brisk_values.specs.Functions.{changed}
-use Rattle.brisk_values.specs.Names.{Name, same_name, same_process, single}
+use Rattle.brisk_values.specs.Names.{Name, same_process, single}
 use Rattle.brisk_values.proofs.Changes.{exact_name}
 use Rattle.brisk_syntax.specs.declared.tree.Who.{Who}
 use Rattle.brisk_syntax.specs.declared.tree.Who.TheVariants as who
@@ -12,14 +12,13 @@ use Rattle.brisk_syntax.specs.Stores.{stored, with_variables}
 use Rattle.brisk_syntax.specs.Syntax.{Expression, Assign, Send, Recv, Code, ◌⨾◌, ◌then◌}
 use Rattle.brisk_syntax.specs.Value.{value_of}
 use Rattle.brisk_seq.specs.Sequential.{Focus, with_box}
-use Rattle.brisk_async.specs.declared.event.Event.{Event}
 use Rattle.brisk_async.specs.Laws.{plain_event}
 use Rattle.brisk_async.specs.Machine.{Payload, queue, partner, payload_at, place_of, takes, effect, seen_by, unchanged, appended, taken}
 use Rattle.brisk_facts.specs.Learning.{fold}
 use Rattle.brisk_facts.proofs.Folding.{fold_value}
 use Rattle.brisk_state.specs.declared.thread.Mode.{Mode}
 use Rattle.brisk_state.specs.declared.thread.Mode.TheVariants.{One, At, Each}
-use Rattle.brisk_state.specs.Symbolic.{Key, key, same_key}
+use Rattle.brisk_state.specs.Symbolic.{Key, key}
 use Rattle.brisk_loops.specs.Does as seq
 use Rattle.brisk_loops.proofs.After.{after_assign, after_fill, after_take}
 use Rattle.brisk_loops.proofs.Agree.{agrees_with, agrees_forgotten}

@@ -1,6 +1,6 @@
 -- What the tests of a close say.
-use Rattle.std.proofs.Common.{◌≡◌, ℕ, Bool, true, false, List, [], ◌∷◌, map, Option, Some, None, cond, refl, sym, ap, ◌∙◌, subst, nat_eq}
-use Rattle.std.specs.Prelude.{if◌then◌else◌, ◌&&◌, not, Result, Ok, Err}
+use Rattle.std.proofs.Common.{◌≡◌, ℕ, Bool, true, false, List, [], ◌∷◌, map, Option, Some, None, cond, refl, sym, ap, ◌∙◌, nat_eq}
+use Rattle.std.specs.Prelude.{if◌then◌else◌, ◌&&◌, not, Ok}
 use Rattle.std.specs.List.{list_any, list_all}
 use Rattle.std.specs.Ordering.{is_eq, eq_by_cmp}
 use Rattle.std.specs.FinMap.{find}
@@ -12,7 +12,6 @@ use base.Stored.{Gv, gnil, gnum, gcons}
 use lib.Pointwise.{pointwise}
 use Rattle.brisk_values.specs.declared.value.Value.{Value}
 use Rattle.brisk_values.specs.Names.{Name, same_name}
-use Rattle.brisk_values.specs.Values.{same_value}
 use Rattle.brisk_values.proofs.Changes.{exact_name, both_true}
 use Rattle.brisk_syntax.specs.Syntax.{Code, done}
 use Rattle.brisk_syntax.specs.Stored as stored
@@ -21,10 +20,9 @@ use Rattle.brisk_state.specs.declared.thread.Thread.{Thread}
 use Rattle.brisk_state.specs.Same.{same_tree, same_code}
 use Rattle.brisk_state.specs.Symbolic.{Key, key_cmp, same_key, Symbolic, Pending, numbers_at, or_none, pending_where, same_pending, thread_named}
 use Rattle.brisk_derivtext.specs.declared.fault.SideFault.{SideFault}
-use Rattle.brisk_derivtext.specs.declared.fault.SideFault.TheVariants.{NotRestored, MailChanged, FactLost, OwnerUnfinished}
+use Rattle.brisk_derivtext.specs.declared.fault.SideFault.TheVariants.{NotRestored}
 use Rattle.brisk_derivtext.specs.declared.steps.Fact.{Fact}
-use Rattle.brisk_loops.specs.declared.why.Why.{Why}
-use Rattle.brisk_loops.specs.Rules.{Outcome, without_drops, looks_at, looks_at_key, looks_at_code, Owner, Entered, unless, first_fault, code_in, unfinished, not_restored, close_tests, after_close, fault_or, close}
+use Rattle.brisk_loops.specs.Rules.{without_drops, looks_at, looks_at_key, looks_at_code, Owner, Entered, unless, first_fault, code_in, unfinished, not_restored, close_tests, after_close, fault_or, close}
 use Rattle.brisk_loops.proofs.Events.{exact_key}
 use Rattle.brisk_loops.proofs.Learn.{equal_values}
 use Rattle.brisk_loops.proofs.Lookups.{place_total, exact_place, exact_key_cmp}

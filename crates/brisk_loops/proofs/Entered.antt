@@ -1,5 +1,5 @@
 -- The rules of one thread: from the tests of entry and close to what they say of readings.
-use Rattle.std.proofs.Common.{◌≡◌, ℕ, zero, suc, Bool, true, false, List, [], ◌∷◌, Option, Some, None, cond, refl, sym, ap, ◌∙◌, subst}
+use Rattle.std.proofs.Common.{◌≡◌, zero, suc, Bool, true, false, List, Option, Some, None, cond, refl, sym, ap, ◌∙◌, subst}
 use lib.Pointwise.{pointwise}
 use Rattle.std.specs.FinMap.{find}
 use Rattle.std.proofs.lemmas.Option.{same_Some}
@@ -10,7 +10,7 @@ use Rattle.brisk_values.specs.Names.{Name, same_name}
 use Rattle.brisk_values.proofs.Changes.{name_laws, exact_name, both_true, changed-other}
 use Rattle.brisk_syntax.specs.declared.program.Decl.{Decl}
 use Rattle.brisk_syntax.specs.declared.program.Program.{Program}
-use Rattle.brisk_syntax.specs.Syntax.{Expression, Statement, RecvAny, If, IfElse, While, Repeat, Code, done, ◌⨾◌, ◌then◌}
+use Rattle.brisk_syntax.specs.Syntax.{Expression, Statement, If, IfElse, While, Repeat, Code, done, ◌⨾◌, ◌then◌}
 use Rattle.brisk_seq.specs.Items.{Items, Item}
 use Rattle.brisk_seq.specs.Items as item
 use Rattle.brisk_facts.specs.Facts.{Facts, fact, facts_where, joined, agree, common, is_known, place_cmp}
@@ -20,13 +20,10 @@ use Rattle.brisk_state.specs.declared.thread.Mode.TheVariants.{One, At, Each}
 use Rattle.brisk_state.specs.declared.thread.Thread.{Thread}
 use Rattle.brisk_state.specs.Same.{same_code}
 use Rattle.brisk_state.specs.Symbolic.{Symbolic, code_at, same_mode, same_thread, same_but_facts, same_pending, numbers_at}
-use Rattle.brisk_basic.specs.declared.rule.RuleFault.{RuleFault}
-use Rattle.brisk_basic.specs.declared.rule.RuleFault.TheVariants.{WrongHead}
 use Rattle.brisk_basic.specs.Basic.{at_thread}
 use Rattle.brisk_basic.specs.Outcomes.{when, and_then, told_as}
 use Rattle.brisk_derivtext.specs.declared.steps.Fact.{Fact}
 use Rattle.brisk_derivtext.specs.declared.fault.SideFault.TheVariants.{BranchesDiffer}
-use Rattle.brisk_loops.specs.declared.why.Why.{Why}
 use Rattle.brisk_loops.specs.declared.why.Why.TheVariants.{Rule, Side}
 use Rattle.brisk_loops.specs.Heads.{Fork, fork_of, Guarded, while_of, Loop, repeat_of}
 use Rattle.brisk_loops.specs.Rules.{Outcome, wanted, at_head, without_drops, Everything, looks_at, looks_at_code, Entered, entered_alone, enter_while, enter_repeat, Parted, side, enter_branch, join}
@@ -167,19 +164,19 @@ while_opens P S t drops r e =
       gives = λ X. refl;
       tidy = λ tidy. tidy_kept P (reading S) _ starts tidy;
       closes = λ E S' tidy named kept k. (
-          record {
-            base = base P S t c m w.body w.rest drops learns around;
-            weaker = drops_weaken S drops;
-            body = w.body;
-            rest = w.rest;
-            active = m.active;
-            is = m.stands ∙ is;
-            begins = begins;
-            restored = restored_alone P S t c m w.body w.rest drops learns around E S' named kept k;
-            next = next E S' named kept k;
-          },
-          names_alone P S t c m w.body w.rest drops learns around E S' named kept k,
-          subst (Kept P (reading S)) (sym (next E S' named kept k)) (kept_alone P S t c m w.body w.rest drops learns around w.rest _ (λ ds f. (subst (Fine P ds) is f).1) (λ s f. (subst (Free s) is f).1)),
+        record {
+          base = base P S t c m w.body w.rest drops learns around;
+          weaker = drops_weaken S drops;
+          body = w.body;
+          rest = w.rest;
+          active = m.active;
+          is = m.stands ∙ is;
+          begins = begins;
+          restored = restored_alone P S t c m w.body w.rest drops learns around E S' named kept k;
+          next = next E S' named kept k;
+        },
+        names_alone P S t c m w.body w.rest drops learns around E S' named kept k,
+        subst (Kept P (reading S)) (sym (next E S' named kept k)) (kept_alone P S t c m w.body w.rest drops learns around w.rest _ (λ ds f. (subst (Fine P ds) is f).1) (λ s f. (subst (Free s) is f).1)),
       );
     }
       where
@@ -225,19 +222,19 @@ repeat_opens P S t drops r e =
       gives = λ X. refl;
       tidy = λ tidy. tidy_kept P (reading S) _ (subst (Kept P (reading S)) (sym (begins_alone P S t c m l.body l.rest drops learns around)) (kept_alone P S t c m l.body l.rest drops learns around l.body _ (λ ds f. (subst (Fine P ds) is f).0.1) (λ s f. (subst (Free s) is f).0))) tidy;
       closes = λ E S' tidy named kept k. (
-          record {
-            base = base P S t c m l.body l.rest drops learns around;
-            weaker = drops_weaken S drops;
-            body = l.body;
-            rest = l.rest;
-            active = m.active;
-            is = m.stands ∙ is;
-            begins = begins_alone P S t c m l.body l.rest drops learns around;
-            restored = restored_alone P S t c m l.body l.rest drops learns around E S' named kept k;
-            next = next E S' named kept k;
-          },
-          names_alone P S t c m l.body l.rest drops learns around E S' named kept k,
-          subst (Kept P (reading S)) (sym (next E S' named kept k)) (kept_alone P S t c m l.body l.rest drops learns around l.rest _ (λ ds f. (subst (Fine P ds) is f).1) (λ s f. (subst (Free s) is f).1)),
+        record {
+          base = base P S t c m l.body l.rest drops learns around;
+          weaker = drops_weaken S drops;
+          body = l.body;
+          rest = l.rest;
+          active = m.active;
+          is = m.stands ∙ is;
+          begins = begins_alone P S t c m l.body l.rest drops learns around;
+          restored = restored_alone P S t c m l.body l.rest drops learns around E S' named kept k;
+          next = next E S' named kept k;
+        },
+        names_alone P S t c m l.body l.rest drops learns around E S' named kept k,
+        subst (Kept P (reading S)) (sym (next E S' named kept k)) (kept_alone P S t c m l.body l.rest drops learns around l.rest _ (λ ds f. (subst (Fine P ds) is f).1) (λ s f. (subst (Free s) is f).1)),
       );
     }
       where

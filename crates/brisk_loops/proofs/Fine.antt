@@ -1,6 +1,6 @@
 -- Code that keeps to the declarations of its role, whatever its partners, and loops over sets alone.
-use Rattle.std.proofs.Common.{◌≡◌, true, List, [], ◌∷◌, Option, Some}
-use Rattle.std.specs.Prelude.{Bool, if◌then◌else◌}
+use Rattle.std.proofs.Common.{◌≡◌, true, List, ◌∷◌, Some}
+use Rattle.std.specs.Prelude.{if◌then◌else◌}
 use Rattle.brisk_values.specs.declared.value.Kind.{Kind}
 use Rattle.brisk_values.specs.declared.value.Kind.TheVariants as kind
 use Rattle.brisk_values.specs.Names.{Name}
@@ -11,9 +11,9 @@ use Rattle.brisk_syntax.specs.declared.tree.Who.{Who}
 use Rattle.brisk_syntax.specs.Declarations.{kind_in, kinds_on}
 use Rattle.brisk_syntax.specs.Roles.{RoleText}
 use Rattle.brisk_syntax.specs.Substitution.{statement_map, code_map}
-use Rattle.brisk_syntax.specs.Syntax.{Expression, Statement, Assign, Send, Recv, RecvAny, If, IfElse, While, For, Repeat, Code, done, ◌⨾◌, ◌then◌}
+use Rattle.brisk_syntax.specs.Syntax.{Statement, Assign, Send, Recv, RecvAny, If, IfElse, While, For, Repeat, Code, done, ◌⨾◌, ◌then◌}
 use Rattle.brisk_syntax.specs.Typing.{Scope, scope, is_set, HasKind, HaveKinds, AreDeclared, are_distinct}
-use Rattle.brisk_syntax.specs.WellTyped.{IsWellTyped, IsCodeWellTyped, is_other_set}
+use Rattle.brisk_syntax.specs.WellTyped.{IsWellTyped, IsCodeWellTyped}
 
 -- what the expressions of a role with these declarations may name
 abbrev pub scope_of : Program → List Decl → Scope

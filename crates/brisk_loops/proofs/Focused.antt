@@ -1,7 +1,7 @@
 -- The rules that bring a set into focus: from the tests of entry and close to what they say of readings.
-use Rattle.std.proofs.Common.{◌≡◌, ℕ, Bool, true, false, List, [], ◌∷◌, map, Option, Some, None, refl, sym, ap, ◌∙◌, subst}
+use Rattle.std.proofs.Common.{◌≡◌, Bool, true, false, List, [], ◌∷◌, map, Option, Some, None, refl, sym, ap, ◌∙◌, subst}
 use Rattle.std.specs.Prelude.{if◌then◌else◌, ◌&&◌, ◌||◌, not}
-use Rattle.std.specs.List.{list_any, list_all}
+use Rattle.std.specs.List.{list_any}
 use Rattle.brisk_values.specs.declared.value.Value.{Value}
 use Rattle.brisk_values.specs.Functions.{changed}
 use Rattle.brisk_values.specs.Names.{Name, same_name}
@@ -10,24 +10,23 @@ use Rattle.brisk_syntax.specs.declared.program.Decl.{Decl}
 use Rattle.brisk_syntax.specs.declared.program.Program.{Program}
 use Rattle.brisk_syntax.specs.Syntax.{Code, done}
 use Rattle.brisk_seq.specs.Items.{Items, Item}
-use Rattle.brisk_facts.specs.Facts.{Facts, fact, facts_where, joined}
+use Rattle.brisk_facts.specs.Facts.{fact, facts_where, joined}
 use Rattle.brisk_state.specs.declared.thread.Mode.{Mode}
 use Rattle.brisk_state.specs.declared.thread.Mode.TheVariants.{One, At, Each}
 use Rattle.brisk_state.specs.declared.thread.Thread.{Thread}
 use Rattle.brisk_state.specs.Symbolic.{Key, key, Symbolic, with_code, with_mode, numbers_at}
 use Rattle.brisk_derivtext.specs.declared.fault.SideFault.{SideFault}
 use Rattle.brisk_derivtext.specs.declared.steps.Fact.{Fact}
-use Rattle.brisk_loops.specs.Rules.{without_drops, Scope, Outside, Inside, looks_at, looks_at_key, looks_at_code, Owner, Entered, first_fault, unfinished, at_rests}
+use Rattle.brisk_loops.specs.Rules.{without_drops, Scope, looks_at, looks_at_key, looks_at_code, Owner, Entered, first_fault, unfinished, at_rests}
 use Rattle.brisk_loops.proofs.Advance.{Test, with_test, all_of}
 use Rattle.brisk_loops.proofs.Closing.{Closed, first_none, finished, restored_codes, kept_numbers, kept_facts, facts_after}
-use Rattle.brisk_loops.proofs.Control.{Weaker}
 use Rattle.brisk_loops.proofs.Entered.{dropped, drops_weaken}
 use Rattle.brisk_loops.proofs.Fine.{Fine}
 use Rattle.brisk_loops.proofs.For.{owners}
 use Rattle.brisk_loops.proofs.Free.{Free}
 use Rattle.brisk_loops.proofs.Kept.{Kept, Tidy, tidy_kept, kept_weaker, tidy_focus}
 use Rattle.brisk_loops.proofs.Leads.{unchanged_at}
-use Rattle.brisk_loops.proofs.Middle.{focused, Closes}
+use Rattle.brisk_loops.proofs.Middle.{focused}
 use Rattle.brisk_loops.proofs.Readings.{Reading, reading}
 use Rattle.brisk_loops.proofs.Threads.{names, modes, codes, names_with_code, modes_with_code, codes_with_code, names_with_mode, codes_with_mode, modes_with_mode}
 

@@ -124,10 +124,10 @@ module _ (world : World) (T : Typing world) (S : Reading) (s : Name) (ts : List 
   own : Test
   own = owners ts
 
-  abbrev Middle : ℕ → Conf → Type 0
+  abbrev pub Middle : ℕ → Conf → Type 0
   Middle k c = Mid world S s φ E (below k) (at_turn S s ts L k) κ c
 
-  first : (c : Conf) → Fits world S κ φ c → Middle 0 c
+  pub first : (c : Conf) → Fits world S κ φ c → Middle 0 c
   first c f = record {
     code = λ p l. f.code p l ∙ (λ i. code_by φ (if sym (none p) i then E.code s else sym (start p.role) i) then κ p);
     carries = λ p q l k. subst (λ (P : Name → List ℕ). Carries c p q P) (λ i C. if (sym (none p) i || sym (none q) i) then E.pending (key p.role q.role C) else S.pending (key p.role q.role C)) (carried world S κ φ c f p q l k);
@@ -148,13 +148,13 @@ module _ (world : World) (T : Typing world) (S : Reading) (s : Name) (ts : List 
   free_turn k u =
       elim (owners ts u) as (λ b. owners ts u ≡ b → Free s (if b then For (L u).binder s k (L u).body ⨾ (L u).rest else S.code u)) [ true ↦ λ e. (let h = free_body u e in (h.0, h.1)) | false ↦ λ e. entry.free u ] refl
 
-  abbrev behind_turn : ℕ → Pid → Code
+  abbrev pub behind_turn : ℕ → Pid → Code
   behind_turn k p = code_by φ (at_turn S s ts L (k + 1) p.role) then κ p
 
   abbrev Begun : ℕ → Conf → Type 0
   Begun k c = Advanced world (for_start S s ts L) (follow κ (behind_turn k) (owners ts)) (in_focus s k φ) c (map (λ t. plain_event (in_focus s k φ t)) ts)
 
-  at_is : (k : ℕ) (t : Name) → owners ts t ≡ true → at_turn S s ts L k t ≡ For (L t).binder s k (L t).body ⨾ (L t).rest
+  pub at_is : (k : ℕ) (t : Name) → owners ts t ≡ true → at_turn S s ts L k t ≡ For (L t).binder s k (L t).body ⨾ (L t).rest
   at_is k t e = ap (λ b. if b then For (L t).binder s k (L t).body ⨾ (L t).rest else S.code t) e
 
   at_end : (k : ℕ) (t : Name) → owners ts t ≡ false → at_turn S s ts L k t ≡ S.code t
@@ -220,13 +220,13 @@ module _ (world : World) (T : Typing world) (S : Reading) (s : Name) (ts : List 
   comes_then : (k l : ℕ) (c d e : Conf) (u v : List Event) → Comes k c d u → Comes l d e v → Comes l c e (u ++ v)
   comes_then k l c d e u v a b = record { runs = runs-append world c d e u v a.runs b.runs; mid = b.mid; still = still_then world S.mode φ c d e a.still b.still }
 
-  inside_of : (left k : ℕ) → suc left + k ≡ world.given.sizes s → nat_lt k (world.given.sizes s) ≡ true
+  pub inside_of : (left k : ℕ) → suc left + k ≡ world.given.sizes s → nat_lt k (world.given.sizes s) ≡ true
   inside_of left k e = lt-ltb k (world.given.sizes s) (omega arith)
 
-  next_turn : (left k : ℕ) → suc left + k ≡ world.given.sizes s → left + (k + 1) ≡ world.given.sizes s
+  pub next_turn : (left k : ℕ) → suc left + k ≡ world.given.sizes s → left + (k + 1) ≡ world.given.sizes s
   next_turn left k e = omega (arith, e)
 
-  picks_k : (k : ℕ) → Picks (focused S.mode s) (in_focus s k φ)
+  pub picks_k : (k : ℕ) → Picks (focused S.mode s) (in_focus s k φ)
   picks_k k = picks_in S.mode s φ k picks
 
   no_turn : (c : Conf) → Middle (world.given.sizes s) c → Comes (world.given.sizes s) c c []
@@ -297,7 +297,7 @@ module _ (world : World) (T : Typing world) (S : Reading) (s : Name) (ts : List 
           (λ i C. ((λ i. if (all_served p l i || all_served q k i) then E.pending (key p.role q.role C) else S.pending (key p.role q.role C)) ∙ same_pending (key p.role q.role C)) i)
           (mid.carries p q l k)
 
-  not_set : (t : Name) → owners ts t ≡ true → same_name s t ≡ false
+  pub not_set : (t : Name) → owners ts t ≡ true → same_name s t ≡ false
   not_set t e =
       elim (same_name s t) as (λ b. same_name s t ≡ b → b ≡ false) [
         | true ↦ λ g. sym e ∙ ap (owners ts) (sym (exact_name s t g)) ∙ entry.not_owner

@@ -1,6 +1,6 @@
 -- A gather: a repeat over a set whose body is a receive from any of it.
 use Rattle.std.proofs.Common.{◌≡◌, ℕ, suc, zero, ◌+◌, ◌<◌, Bool, true, false, List, [], ◌∷◌, ◌++◌, Option, Some, None, refl, sym, ap, ◌∙◌, subst, nat_eq, arith, zero-add, add-zero, inl, inr}
-use Rattle.std.specs.Prelude.{if◌then◌else◌, ◌&&◌, ◌||◌, ◌⊎◌, nat_lt}
+use Rattle.std.specs.Prelude.{if◌then◌else◌, ◌&&◌, ◌||◌, nat_lt}
 use Rattle.std.specs.List.{list_any}
 use Rattle.std.proofs.lemmas.Bool.{le-ltb, lt-ltb, ltb-true}
 use Rattle.std.proofs.lemmas.Cmp.{nat_eq_equiv}
@@ -11,7 +11,7 @@ use Rattle.brisk_values.proofs.Changes.{name_laws, process_laws, exact_name, exa
 use Rattle.brisk_syntax.specs.Syntax.{RecvAny, Repeat, Code, done, ◌⨾◌, ◌then◌}
 use Rattle.brisk_seq.specs.Sequential.{Focus, in_focus}
 use Rattle.brisk_async.specs.declared.event.Event.{Event}
-use Rattle.brisk_async.specs.Laws.{AnyReceive, any_code, named, count, from_any, from_named, Takes}
+use Rattle.brisk_async.specs.Laws.{AnyReceive, any_code, named, plain_event, count, from_any, from_named, Takes}
 use Rattle.brisk_async.specs.Machine.{State, effect, goes_to, seen_by, run, step, unchanged, IsTerminal}
 use Rattle.brisk_async.proofs.Named.{head_named}
 use Rattle.brisk_async.proofs.Senders.{Sent, taking, counts_alike}
@@ -27,7 +27,7 @@ use Rattle.brisk_loops.proofs.For.{still_out, picks_in}
 use Rattle.brisk_loops.proofs.Free.{Free, code_other}
 use Rattle.brisk_loops.proofs.Leads.{state, Rest, Leads, count-append, rest-append, runs-append, quiet_leads, unchanged_at}
 use Rattle.brisk_loops.proofs.Loops.{facts_back}
-use Rattle.brisk_loops.proofs.Member.{member_is, is_inside, not_a_set, stands, took, behind_it, same_focus, took_fits, took_still, moves, with_sender, typed_in}
+use Rattle.brisk_loops.proofs.Member.{member_is, is_inside, not_a_set, stands, took, behind_it, took_fits, took_still, moves, with_sender, typed_in}
 use Rattle.brisk_loops.proofs.Middle.{Served, served, with_member, focused, Mid, Closes, in_turn, live_back, enters, ends, set_at, none_served, all_served}
 use Rattle.brisk_loops.proofs.Pigeons.{unserved, unserved_none, unserved_less, none_unserved, some_unserved, Unserved}
 use Rattle.brisk_loops.proofs.Readings.{Reading, is_active, code_by}
@@ -72,36 +72,36 @@ module _ (world : World) (T : Typing world) (S : Reading) (t : Name) (a : AnyRec
   abbrev F : ℕ → Name → Code
   F k = changed same_name S.code t (gather_at a k)
 
-  abbrev X : ℕ → Code
+  abbrev pub X : ℕ → Code
   X k = code_by φ (gather_at a k) then κ p
 
   -- the receive in turn k
-  abbrev receive : ℕ → AnyReceive
+  abbrev pub receive : ℕ → AnyReceive
   receive k = stands φ a (X (k + 1))
 
-  abbrev begun : ℕ → Conf → Conf
+  abbrev pub begun : ℕ → Conf → Conf
   begun k c = record c { code = changed same_process c.code p (any_code (receive k)) }
 
-  abbrev taken : ℕ → ℕ → Conf → Conf
+  abbrev pub taken : ℕ → ℕ → Conf → Conf
   taken m k c = took φ a (X (k + 1)) p (begun k c) m
 
-  abbrev Middle : Served → ℕ → Conf → Type 0
+  abbrev pub Middle : Served → ℕ → Conf → Type 0
   Middle sv k c = Mid world S s φ E sv (F k) κ c
 
   not_set : same_name s t ≡ false
   not_set = not_a_set S s t entry.set entry.active
 
-  not_served : (sv : Served) → served s sv p ≡ false
+  pub not_served : (sv : Served) → served s sv p ≡ false
   not_served sv = (λ i. same_name s (picks.role_of t i) && sv p.member) ∙ ap (λ b. b && sv p.member) not_set
 
-  code_is : (sv : Served) (k : ℕ) (c : Conf) → Middle sv k c → c.code p ≡ X k
+  pub code_is : (sv : Served) (k : ℕ) (c : Conf) → Middle sv k c → c.code p ≡ X k
   code_is sv k c mid =
       mid.code p (active_live world S.mode φ t picks entry.active)
       ∙ (λ i. code_by φ (if not_served sv i then E.code s else F k (picks.role_of t i)) then κ p)
       ∙ ap (λ z. code_by φ z then κ p) (changed-same name_laws S.code t (gather_at a k))
 
   -- the turn begins
-  begin_leads : (sv : Served) (k : ℕ) (c : Conf) → nat_lt k n ≡ true → Middle sv k c → Leads world c (begun k c)
+  abbrev pub begin_leads : (sv : Served) (k : ℕ) (c : Conf) → nat_lt k n ≡ true → Middle sv k c → Leads world c (begun k c)
   begin_leads sv k c inside mid =
       quiet_leads world c p (X k) (any_code (receive k)) unchanged c.box (code_is sv k c mid)
       (λ i. goes_to (if inside i then any_code (receive k) else (code_by φ a.rest then κ p)))
@@ -109,14 +109,14 @@ module _ (world : World) (T : Typing world) (S : Reading) (t : Name) (a : AnyRec
   again : (k : ℕ) (c : Conf) (x : Code) → record c { code = changed same_process c.code p x } ≡ record (begun k c) { code = changed same_process (begun k c).code p x }
   again k c x = λ i. record c { code = sym (changed_again same_process c.code p (any_code (receive k)) x) i }
 
-  at_receive : (k : ℕ) (c : Conf) → (begun k c).code p ≡ any_code (receive k)
+  pub at_receive : (k : ℕ) (c : Conf) → (begun k c).code p ≡ any_code (receive k)
   at_receive k c = changed-same process_laws c.code p (any_code (receive k))
 
   free_body : Free s a.body
   free_body = (subst (Free s) entry.is (entry.free t)).0.0
 
   module _ (m : ℕ) (k : ℕ) (c : Conf) where
-    abbrev κ' : Pid → Code
+    abbrev pub κ' : Pid → Code
     κ' = behind_it world T S t a entry.set entry.active κ φ picks (X (k + 1))
 
     module _ (sv : Served) (inside : nat_lt m n ≡ true) (fresh : sv m ≡ false) (mid : Middle sv k c) where
@@ -127,7 +127,7 @@ module _ (world : World) (T : Typing world) (S : Reading) (t : Name) (a : AnyRec
             | false ↦ entry.free u
           ]
 
-      fits_taken : Fits world (gather_start S t a) κ' (in_focus s m φ) (taken m k c)
+      pub fits_taken : Fits world (gather_start S t a) κ' (in_focus s m φ) (taken m k c)
       fits_taken =
           took_fits world T S t a entry.set entry.active κ φ picks (X (k + 1)) m free_body c (begun k c) (again k c) (F k) (changed same_name S.code t (from_focus a))
           (changed_again same_name S.code t (gather_at a k) (from_focus a)) (enters world S s φ E m entry.set inside sv fresh (F k) κ c mid free_at)
@@ -187,14 +187,14 @@ module _ (world : World) (T : Typing world) (S : Reading) (t : Name) (a : AnyRec
   comes_then sv sv' k l c d e u v x y = record { runs = runs-append world c d e u v x.runs y.runs; mid = y.mid; still = still_then world S.mode φ c d e x.still y.still }
 
   module _ (k : ℕ) (below : nat_lt k n ≡ true) (sv : Served) (c : Conf) (typed : T.IsTyped c) (mid : Middle sv k c) where
-    L : Leads world c (begun k c)
+    abbrev pub L : Leads world c (begun k c)
     L = begin_leads sv k c below mid
 
-    typed_taken : (m : ℕ) → nat_lt m n ≡ true → T.IsTyped (taken m k c)
+    pub typed_taken : (m : ℕ) → nat_lt m n ≡ true → T.IsTyped (taken m k c)
     typed_taken m inside = typed_in world T S t a entry.set entry.active κ φ picks (X (k + 1)) (begun k c) m (T.runs c (begun k c) L.by typed L.runs) (at_receive k c) inside
 
     module _ (m : ℕ) (inside : nat_lt m n ≡ true) (fresh : sv m ≡ false) where
-      comes : (d : Conf) (u : List Event) (w : Arrives world T (gather_start S t a) E (κ' m k c) (in_focus s m φ) (taken m k c) d u) →
+      pub comes : (d : Conf) (u : List Event) (w : Arrives world T (gather_start S t a) E (κ' m k c) (in_focus s m φ) (taken m k c) d u) →
           (v : List Event) × Comes (with_member m sv) (k + 1) c d v × ((q : Pid) → count q v ≡ count q L.by + count q u)
       comes d u w =
           let x = sent m k c sv inside fresh mid d u w in
@@ -237,13 +237,13 @@ module _ (world : World) (T : Typing world) (S : Reading) (t : Name) (a : AnyRec
             let m = x.from.member in
             let first = taking (receive k) p (state world (begun k c)) l.left z l.ends x in
             let fresh : sv m ≡ false =
-                elim (sv m) as (λ b. sv m ≡ b → b ≡ false) [
-                  | true ↦ λ e. absurd (quiet m x.before first.at first.next x.place w.1 e first.runs_before x.first (ap (λ v. step first.at (from_any p v x.place)) (sym w.0) ∙ first.takes))
-                  | false ↦ λ e. refl
-                ] refl in
+            elim (sv m) as (λ b. sv m ≡ b → b ≡ false) [
+              | true ↦ λ e. absurd (quiet m x.before first.at first.next x.place w.1 e first.runs_before x.first (ap (λ v. step first.at (from_any p v x.place)) (sym w.0) ∙ first.takes))
+              | false ↦ λ e. refl
+            ] refl in
             let schedule = x.before ++ from_named p x.place ∷ x.later in
             let y = turn.back (κ' m k c) (in_focus s m φ) (taken m k c) (typed_taken m w.1) (picks_in S.mode s φ m picks) (fits_taken m k c sv w.1 fresh mid) schedule z
-                (ap (λ v. run (named (receive k) p v (state world (begun k c))) schedule) (sym w.0) ∙ x.runs) end in
+            (ap (λ v. run (named (receive k) p v (state world (begun k c))) schedule) (sym w.0) ∙ x.runs) end in
             let v = comes m w.1 fresh y.0 y.2 y.3 in (
               m,
               w.1,
@@ -262,10 +262,10 @@ module _ (world : World) (T : Typing world) (S : Reading) (t : Name) (a : AnyRec
             )
 
   -- the members that were used, as the sequential program keeps them
-  abbrev used_by : List ℕ → Served
+  abbrev pub used_by : List ℕ → Served
   used_by used j = list_any (nat_eq j) used
 
-  used_more : (m : ℕ) (used : List ℕ) → with_member m (used_by used) ≡ used_by (m ∷ used)
+  pub used_more : (m : ℕ) (used : List ℕ) → with_member m (used_by used) ≡ used_by (m ∷ used)
   used_more m used = λ i j. ((λ i. if nat_eq_equiv.symm m j i then true else used_by used j) ∙ or_if (nat_eq j m) (used_by used j)) i
 
   -- no member that was served is taken again
@@ -280,7 +280,7 @@ module _ (world : World) (T : Typing world) (S : Reading) (t : Name) (a : AnyRec
   none_yet : (c : Conf) (k : ℕ) (sv : Served) → Middle sv k c → Comes sv k c c []
   none_yet c k sv mid = record { runs = refl; mid = mid; still = record { code = λ p d. refl; store = λ p d. refl; sent = λ p q d C. refl; got = λ p q d C. refl; box_sent = λ p q d n. refl; box_got = λ p q d n. refl } }
 
-  one_fewer : (m : ℕ) (used : List ℕ) (left : ℕ) → m < n → used_by used m ≡ false → unserved n (used_by used) ≡ suc left → unserved n (used_by (m ∷ used)) ≡ left
+  pub one_fewer : (m : ℕ) (used : List ℕ) (left : ℕ) → m < n → used_by used m ≡ false → unserved n (used_by used) ≡ suc left → unserved n (used_by (m ∷ used)) ≡ left
   one_fewer m used left inside fresh e =
       let h = unserved_less n m (used_by used) inside fresh in let g = ap (unserved n) (used_more m used) in omega (arith, h, g, e)
 
@@ -311,24 +311,26 @@ module _ (world : World) (T : Typing world) (S : Reading) (t : Name) (a : AnyRec
   after_gather = set_at S s E (changed same_name S.code t a.rest)
 
   -- all are served, and the receiver leaves the loop
-  record Left (c : Conf) : Type 0 where
-    to : Conf
-    same_mem : mem to ≡ mem c
-    leads : Leads world c to
-    fits : Fits world after_gather κ φ to
-    still : Still world S.mode φ c to
+  pub record Left (c : Conf) : Type 0 where
+    pub to : Conf
+    pub same_mem : mem to ≡ mem c
+    pub leads : Leads world c to
+    pub one : leads.by ≡ plain_event p ∷ []
+    pub fits : Fits world after_gather κ φ to
+    pub still : Still world S.mode φ c to
 
-  leave : (sv : Served) (c : Conf) → unserved n sv ≡ 0 → Middle sv n c → Left c
+  pub leave : (sv : Served) (c : Conf) → unserved n sv ≡ 0 → Middle sv n c → Left c
   leave sv c none mid =
       let W = set_at S s E (F n) in
       let f = all_served world S s φ E entry.set sv (F n) κ c (λ j l. none_unserved n j sv none (ltb-true j n l)) exit.closes mid in
       let x = silent world W κ κ φ c picks t entry.active f record { same = λ q l d. refl } a.rest (W.facts t) (events.own_facts world W κ φ c picks t entry.active f)
-          ((λ i. effect (seen_by (state world c) p) p (code_by φ (if not_set i then E.code s else changed-same name_laws S.code t (gather_at a n) i) then κ p) None None)
-          ∙ (λ i. goes_to (if le-ltb n n (omega arith) i then any_code (receive n) else (code_by φ a.rest then κ p)))) in
+      ((λ i. effect (seen_by (state world c) p) p (code_by φ (if not_set i then E.code s else changed-same name_laws S.code t (gather_at a n) i) then κ p) None None)
+      ∙ (λ i. goes_to (if le-ltb n n (omega arith) i then any_code (receive n) else (code_by φ a.rest then κ p)))) in
       record {
         to = x.to;
         same_mem = x.same_mem;
         leads = x.leads;
+        one = x.one;
         fits = subst (λ (Z : Reading). Fits world Z κ φ x.to) (λ i. record W { code = λ u. codes u i; facts = facts_back W.facts t i }) x.fits;
         still = x.still;
       }
@@ -347,7 +349,7 @@ module _ (world : World) (T : Typing world) (S : Reading) (t : Name) (a : AnyRec
     still = still_then world S.mode φ c d x.to w.still x.still;
   }
 
-  starts : (c : Conf) → Fits world S κ φ c → Middle (used_by []) 0 c
+  pub starts : (c : Conf) → Fits world S κ φ c → Middle (used_by []) 0 c
   starts c f = none_served world S s φ E entry.set (used_by []) (F 0) κ c (λ j. refl) (sym (unchanged_at same_name exact_name S.code t (gather_at a 0) (sym entry.is))) f
 
   pub gather_there : (c : Conf) → T.IsTyped c → Fits world S κ φ c → (m : Mem) → seq.any s R n n [] φ (mem c) m → (d : Conf) × (mem d ≡ m) × (u : List Event) × Arrives world T S after_gather κ φ c d u

@@ -1,6 +1,6 @@
 -- The program of a derivation is well typed.
-use Rattle.std.proofs.Common.{◌≡◌, ℕ, Bool, true, false, List, [], ◌∷◌, ◌++◌, map, Option, Some, None, refl, sym, ap, ◌∙◌, subst}
-use Rattle.std.specs.List.{AllByRecursion, list_any}
+use Rattle.std.proofs.Common.{◌≡◌, Bool, true, false, List, [], ◌∷◌, ◌++◌, map, Option, Some, None, refl, sym, ap, ◌∙◌, subst}
+use Rattle.std.specs.List.{AllByRecursion}
 use Rattle.std.specs.Prelude.{if◌then◌else◌, ◌&&◌, ◌||◌, not}
 use Rattle.std.proofs.lemmas.Option.{same_Some}
 use Rattle.brisk_values.specs.declared.operation.Op1.TheVariants.{Neg, Not}
@@ -8,11 +8,10 @@ use Rattle.brisk_values.specs.declared.operation.Op2.TheVariants.{Add, Sub, Mul,
 use Rattle.brisk_values.specs.declared.value.Kind.{Kind}
 use Rattle.brisk_values.specs.declared.value.Kind.TheVariants as kind
 use Rattle.brisk_values.specs.Names.{Name, same_name}
-use Rattle.brisk_values.proofs.Changes.{name_laws, exact_name, both_true}
+use Rattle.brisk_values.proofs.Changes.{name_laws, both_true}
 use Rattle.brisk_syntax.specs.declared.program.Decl.{Decl}
 use Rattle.brisk_syntax.specs.declared.program.Program.{Program}
 use Rattle.brisk_syntax.specs.declared.tree.Who.{Who}
-use Rattle.brisk_syntax.specs.declared.tree.Who.TheVariants as who
 use Rattle.brisk_syntax.specs.Declarations.{role_named, decls_of, variable_of}
 use Rattle.brisk_syntax.specs.Roles.{RoleText}
 use Rattle.brisk_syntax.specs.Syntax.{Expression, Num, Truth, Var, Tag, Size, Paren, Un, Bin, Statement, Code}
@@ -22,8 +21,7 @@ use Rattle.brisk_syntax.specs.WellTyped.{IsRoleWellTyped, IsProgramWellTyped}
 use Rattle.brisk_syntax.specs.WellTyped as program
 use Rattle.brisk_seq.specs.declared.tree.SeqProgram.{SeqProgram}
 use Rattle.brisk_seq.specs.Items.{Item, Items, nothing, ◌⨟◌, ◌followed_by◌}
-use Rattle.brisk_seq.specs.Items as item
-use Rattle.brisk_seq.specs.WellTyped.{is_process, decls_at, scope_at, CanFocus, IsItemWellTyped, AreItemsWellTyped, globals, IsSeqWellTyped}
+use Rattle.brisk_seq.specs.WellTyped.{is_process, decls_at, scope_at, CanFocus, AreItemsWellTyped, globals, IsSeqWellTyped}
 use Rattle.brisk_state.specs.declared.thread.Mode.{Mode}
 use Rattle.brisk_state.specs.declared.thread.Mode.TheVariants.{One, At, Each}
 use Rattle.brisk_state.specs.Symbolic.{Symbolic, initial}
@@ -36,8 +34,8 @@ use Rattle.brisk_loops.proofs.Applied.{Applies, assigns, fills, takes, passes, k
 use Rattle.brisk_loops.proofs.Control.{sides}
 use Rattle.brisk_loops.proofs.Derives.{Takes_step, by_rule, by_branch, by_while, by_repeat, by_for, by_gather, by_pick, Takes_steps, ended, next}
 use Rattle.brisk_loops.proofs.Branch.{parts}
-use Rattle.brisk_loops.proofs.Fine.{FineStatement, Fine, scope_of}
-use Rattle.brisk_loops.proofs.Kept.{Tidy, AllFine, decls_by, fine_first}
+use Rattle.brisk_loops.proofs.Fine.{FineStatement, scope_of}
+use Rattle.brisk_loops.proofs.Kept.{AllFine, decls_by, fine_first}
 use Rattle.brisk_loops.proofs.Middle.{focused}
 use Rattle.brisk_loops.proofs.Outcomes.{steps_come}
 use Rattle.brisk_loops.proofs.Readings.{Reading, reading, is_active, stands_by}
@@ -182,9 +180,15 @@ module _ (P : Program) (X : Items) where
   mutual
     step_typed : (focus : List Name) (A : Step) (S : Symbolic) (Y : Items) (S' : Symbolic) → InFocus Q focus (reading S).mode → AllFine P (reading S).code → Takes_step P A S Y S' → AreItemsWellTyped Q focus Y
     step_typed focus _ _ _ _ f fine (by_rule b S r h) = rule_typed focus S r (rule_of b) f fine h
-    step_typed focus _ _ _ _ f fine (by_branch t A B S start start' E F S' Y Z guard k y z) =
-        ((f.active t k.active, has_kind t guard kind.Bool (guard_kind (decls_by P t) k.statement guard k.first k.second k.two (head_fine (reading S).code t k.statement k.rest fine k.is)),
-        steps_typed focus A start Y E (same_focus focus _ _ (ap (λ (z : Reading). z.mode) k.begins) f) y, steps_typed focus B start' Z F (same_focus focus _ _ (ap (λ (z : Reading). z.mode) k.begins_second) f) z), tt)
+    step_typed focus _ _ _ _ f fine (by_branch t A B S start start' E F S' Y Z guard k y z) = (
+      (
+        f.active t k.active,
+        has_kind t guard kind.Bool (guard_kind (decls_by P t) k.statement guard k.first k.second k.two (head_fine (reading S).code t k.statement k.rest fine k.is)),
+        steps_typed focus A start Y E (same_focus focus _ _ (ap (λ (z : Reading). z.mode) k.begins) f) y,
+        steps_typed focus B start' Z F (same_focus focus _ _ (ap (λ (z : Reading). z.mode) k.begins_second) f) z,
+      ),
+      tt,
+    )
     step_typed focus _ _ _ _ f fine (by_while t drops A S start E S' Y guard k y) =
         let g = same_focus focus _ _ k.weaker.mode f in let h = head_fine k.base.code t (syntax.While guard k.body) k.rest (subst (AllFine P) (sym k.weaker.code) fine) k.is in
         ((g.active t k.active, has_kind t guard kind.Bool h.0, steps_typed focus A start Y E (same_focus focus _ _ (ap (λ (z : Reading). z.mode) k.begins) g) y), tt)

@@ -1,6 +1,6 @@
 -- What stands where in a symbolic state after a change of facts or of pending numbers.
 use Rattle.std.proofs.Common.{◌≡◌, ℕ, Bool, true, false, List, [], ◌∷◌, Option, Some, None, cond, refl, sym, ap, ◌∙◌}
-use Rattle.std.specs.Prelude.{if◌then◌else◌, ◌&&◌, not, option_map}
+use Rattle.std.specs.Prelude.{if◌then◌else◌, ◌&&◌, not}
 use Rattle.std.specs.declared.cmp.Ordering.{Ordering}
 use Rattle.std.specs.declared.cmp.Ordering.TheVariants.{Less, Equal, Greater}
 use Rattle.std.specs.Cmp.{IsTotalOrder}
@@ -14,14 +14,10 @@ use Rattle.brisk_values.specs.declared.value.Value.{Value}
 use Rattle.brisk_values.specs.Functions.{changed}
 use Rattle.brisk_values.specs.Names.{Name, same_name}
 use Rattle.brisk_values.proofs.Changes.{name_laws, exact_name, changed_again, changed-same}
-use Rattle.brisk_syntax.specs.Syntax.{Code}
 use Rattle.brisk_facts.specs.Facts.{Place, place_cmp, Facts, fact, with_value, with_values, without_fact, without_facts}
-use Rattle.brisk_state.specs.declared.thread.Thread.{Thread}
-use Rattle.brisk_state.specs.Symbolic.{Key, key_cmp, same_key, Pending, numbers_at, with_numbers, or_none, thread_named, with_code, active_code}
-use Rattle.brisk_state.specs.Symbolic as symbolic
-use Rattle.brisk_loops.specs.Rules.{mode_of, code_in}
+use Rattle.brisk_state.specs.Symbolic.{Key, key_cmp, same_key, Pending, numbers_at, with_numbers, or_none}
 use Rattle.brisk_loops.proofs.Loops.{facts_back}
-use Rattle.brisk_loops.proofs.Readings.{facts_with, forgotten, is_active}
+use Rattle.brisk_loops.proofs.Readings.{facts_with, forgotten}
 
 pub place_total : IsTotalOrder place_cmp
 place_total = then_total (on_total (λ (k : Place). k.0) nat_list_cmp_total) (on_total (λ (k : Place). k.1) nat_list_cmp_total)

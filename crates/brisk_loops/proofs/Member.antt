@@ -1,6 +1,6 @@
 -- A receive from any, with one member of its set in focus as the sender.
-use Rattle.std.proofs.Common.{◌≡◌, ℕ, suc, ◌+◌, Bool, true, false, List, Option, Some, refl, sym, ap, ◌∙◌, subst, arith, zero-add, inl, inr}
-use Rattle.std.specs.Prelude.{if◌then◌else◌, ◌&&◌, ◌⊎◌, nat_lt}
+use Rattle.std.proofs.Common.{◌≡◌, ℕ, suc, ◌+◌, true, false, List, Some, refl, sym, ap, ◌∙◌, subst, arith, zero-add, inl, inr}
+use Rattle.std.specs.Prelude.{if◌then◌else◌, ◌&&◌, nat_lt}
 use Rattle.brisk_values.specs.declared.value.Pid.{Pid}
 use Rattle.brisk_values.specs.Functions.{changed}
 use Rattle.brisk_values.specs.Names.{Name, same_name, same_process, member}
@@ -16,7 +16,7 @@ use Rattle.brisk_async.proofs.Named.{same_run}
 use Rattle.brisk_async.proofs.Senders.{Sent, any_schedule}
 use Rattle.brisk_state.specs.declared.thread.Mode.TheVariants as thread_mode
 use Rattle.brisk_loops.specs.Heads.{from_focus}
-use Rattle.brisk_loops.proofs.Control.{Behind, silent_fits, silent_still, gone_on, not_both}
+use Rattle.brisk_loops.proofs.Control.{silent_fits, silent_still, gone_on, not_both}
 use Rattle.brisk_loops.proofs.Events as events
 use Rattle.brisk_loops.proofs.Fits.{World, Conf, Picks, Fits, Still}
 use Rattle.brisk_loops.proofs.For.{picks_in}

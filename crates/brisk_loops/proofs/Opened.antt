@@ -1,47 +1,41 @@
 -- A `for`, a gather and a pick, from the tests of entry and close to what they say of readings.
-use Rattle.std.proofs.Common.{◌≡◌, ℕ, zero, suc, Bool, true, false, List, [], ◌∷◌, map, length, Option, Some, None, refl, sym, ap, ◌∙◌, subst, nat_eq}
-use Rattle.std.specs.Prelude.{if◌then◌else◌, ◌&&◌, ◌||◌, not, Result, Ok, Err}
-use Rattle.std.proofs.lemmas.Bool.{eqb-true}
+use Rattle.std.proofs.Common.{◌≡◌, zero, suc, Bool, true, false, List, [], ◌∷◌, map, Option, Some, None, refl, sym, ap, ◌∙◌, subst}
+use Rattle.std.specs.Prelude.{if◌then◌else◌, ◌||◌, not, Ok}
 use Rattle.std.proofs.lemmas.Option.{same_Some}
 use Rattle.brisk_values.specs.declared.value.Value.{Value}
-use Rattle.brisk_values.specs.Functions.{changed}
 use Rattle.brisk_values.specs.Names.{Name, same_name}
 use Rattle.brisk_values.proofs.Changes.{name_laws, exact_name}
 use Rattle.brisk_syntax.specs.declared.program.Decl.{Decl}
 use Rattle.brisk_syntax.specs.declared.program.Program.{Program}
-use Rattle.brisk_syntax.specs.declared.tree.Who.{Who}
 use Rattle.brisk_syntax.specs.declared.tree.Who.TheVariants as who
 use Rattle.brisk_syntax.specs.Substitution.{who_with, code_with}
-use Rattle.brisk_syntax.specs.Syntax.{RecvAny, For, Repeat, Code, done, ◌⨾◌, ◌then◌}
+use Rattle.brisk_syntax.specs.Syntax.{For, Code, done, ◌⨾◌, ◌then◌}
 use Rattle.brisk_syntax.specs.Typing.{is_among}
-use Rattle.brisk_async.specs.Laws.{AnyReceive, any_code}
 use Rattle.brisk_seq.specs.Items.{Items}
 use Rattle.brisk_seq.specs.Items as item
 use Rattle.brisk_facts.specs.Facts.{fact}
 use Rattle.brisk_state.specs.declared.thread.Mode.{Mode}
 use Rattle.brisk_state.specs.declared.thread.Mode.TheVariants.{One, At, Each}
 use Rattle.brisk_state.specs.declared.thread.Thread.{Thread}
-use Rattle.brisk_state.specs.Symbolic.{Key, key, Symbolic, thread_named, with_code, with_mode, numbers_at}
+use Rattle.brisk_state.specs.Symbolic.{Key, Symbolic, thread_named, with_code, with_mode, numbers_at}
 use Rattle.brisk_basic.specs.declared.rule.RuleFault.TheVariants.{WrongHead}
-use Rattle.brisk_basic.specs.Outcomes.{when, and_then}
-use Rattle.brisk_derivtext.specs.declared.fault.SideFault.TheVariants.{MayBeEmpty}
+use Rattle.brisk_basic.specs.Outcomes.{and_then}
 use Rattle.brisk_derivtext.specs.declared.steps.Fact.{Fact}
-use Rattle.brisk_loops.specs.declared.why.Why.TheVariants.{Rule, Side}
+use Rattle.brisk_loops.specs.declared.why.Why.TheVariants.{Rule}
 use Rattle.brisk_loops.specs.Heads as heads
 use Rattle.brisk_loops.specs.Heads.{for_of, any_of, gather_of, from_focus}
-use Rattle.brisk_loops.specs.Rules.{Outcome, without_drops, Outside, Inside, looks_at, looks_at_key, mode_of, not_focused, can_focus, loops_of, at_head, at_bodies, with_rests, Owner, Entered, at_rests, enter_for, entered_any, gather_tests, enter_gather, is_nonempty, enter_pick}
+use Rattle.brisk_loops.specs.Rules.{Outcome, without_drops, Outside, mode_of, can_focus, loops_of, at_bodies, with_rests, Entered, enter_for}
 use Rattle.brisk_loops.proofs.Advance.{Test, with_test, Once}
 use Rattle.brisk_loops.proofs.Closing.{Closed}
-use Rattle.brisk_loops.proofs.Derives.{Fors, Gatherings, Pickings}
+use Rattle.brisk_loops.proofs.Derives.{Fors}
 use Rattle.brisk_loops.proofs.Entered.{and_then_ok, same_ok, when_ok, at_head_ok, Opens, dropped, drops_weaken}
-use Rattle.brisk_loops.proofs.Focused.{among, owners_among, AllThere, recode, owners_with, rests_recode, in_focus_of, opened, begins, tidy_opened, Bodies, owner_done, stands_still, mail_still, facts_still, modes_closed, codes_closed, names_closed, facts_closed, kept_opened, free_end, inner_end, tidy_base}
+use Rattle.brisk_loops.proofs.Focused.{among, owners_among, AllThere, recode, owners_with, rests_recode, begins, tidy_opened, owner_done, stands_still, mail_still, facts_still, modes_closed, codes_closed, names_closed, facts_closed, kept_opened, free_end, inner_end}
 use Rattle.brisk_loops.proofs.Fine.{Fine, fine_map}
-use Rattle.brisk_loops.proofs.For.{Loop, owners, for_body, for_start, after_for, Entry, Exit}
+use Rattle.brisk_loops.proofs.For.{Loop, owners, after_for}
 use Rattle.brisk_loops.proofs.Free.{Free}
-use Rattle.brisk_loops.proofs.Kept.{Kept, kept_then, kept_weaker, kept_for, kept_pick, free_with, Tidy}
-use Rattle.brisk_loops.proofs.Middle.{focused, Closes}
-use Rattle.brisk_loops.proofs.Readings.{Reading, reading, is_active, is_each}
-use Rattle.brisk_loops.proofs.Threads.{names, modes, codes, Moved, moved}
+use Rattle.brisk_loops.proofs.Kept.{Kept, kept_then, kept_weaker, kept_for, free_with, Tidy}
+use Rattle.brisk_loops.proofs.Readings.{reading, is_active}
+use Rattle.brisk_loops.proofs.Threads.{names, modes, codes, Moved}
 
 -- the loop at which code stands
 abbrev loop_at : Code → Loop

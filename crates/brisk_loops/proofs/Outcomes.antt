@@ -1,21 +1,19 @@
 -- What a derivation that doesn't fail is: the relation, with the names of threads and what steps keep.
-use Rattle.std.proofs.Common.{◌≡◌, ℕ, ◌+◌, true, List, Some, None, refl, sym, ap, ◌∙◌, subst}
-use Rattle.std.specs.Prelude.{Result, Ok, Err, nat_lt}
+use Rattle.std.proofs.Common.{◌≡◌, ℕ, ◌+◌, refl, sym, ◌∙◌, subst}
+use Rattle.std.specs.Prelude.{Ok, nat_lt}
 use Rattle.brisk_syntax.specs.declared.program.Program.{Program}
 use Rattle.brisk_seq.specs.Items.{Item, Items, nothing, ◌⨟◌, ◌followed_by◌}
 use Rattle.brisk_seq.specs.Items as item
 use Rattle.brisk_state.specs.Symbolic.{Symbolic}
-use Rattle.brisk_basic.specs.Basic.{Applied, apply}
-use Rattle.brisk_basic.specs.Outcomes.{when, and_then, told_as}
+use Rattle.brisk_basic.specs.Basic.{apply}
+use Rattle.brisk_basic.specs.Outcomes.{told_as}
 use Rattle.brisk_derivtext.specs.declared.fault.SideFault.TheVariants.{TooDeep}
-use Rattle.brisk_derivtext.specs.declared.steps.BasicStep.{BasicStep}
 use Rattle.brisk_derivtext.specs.Steps.{Step, Basic, Branch, While, For, Repeat, Gather, Pick, Steps, no_steps, ◌▷◌}
 use Rattle.brisk_loops.specs.declared.why.Why.TheVariants.{Rule, Side}
-use Rattle.brisk_loops.specs.Derives.{Failure, Derived, told_at, Premise, nested, items_in, rule_of, by_basic, by_loop, by_branch, derive, derive_all}
+use Rattle.brisk_loops.specs.Derives.{Derived, told_at, Premise, nested, rule_of, by_loop, by_branch, derive, derive_all}
 use Rattle.brisk_loops.specs.Rules.{Outcome, Entered, Parted, close, join, enter_while, enter_for, enter_repeat, enter_gather, enter_pick, enter_branch}
 use Rattle.brisk_loops.proofs.Applied.{applies, named_applied}
 use Rattle.brisk_loops.proofs.Closing.{closed}
-use Rattle.brisk_loops.proofs.Control.{Weaker}
 use Rattle.brisk_loops.proofs.Derives.{Takes_step, by_rule, by_while, by_repeat, by_for, by_gather, by_pick, Takes_steps, ended, next}
 use Rattle.brisk_loops.proofs.Derives as relation
 use Rattle.brisk_loops.proofs.Entered.{and_then_ok, told_ok, same_ok, when_ok, while_opens, repeat_opens, branch_parts}

@@ -1,5 +1,5 @@
 -- A pass is sound: a send, and at once its receive.
-use Rattle.std.proofs.Common.{◌≡◌, true, false, List, [], ◌∷◌, ◌++◌, map, Option, Some, None, refl, sym, ap, ◌∙◌, subst}
+use Rattle.std.proofs.Common.{◌≡◌, true, false, List, [], ◌∷◌, ◌++◌, map, Option, Some, None, refl, sym, ap, ◌∙◌}
 use Rattle.std.specs.Prelude.{if◌then◌else◌, option_map}
 use Rattle.brisk_values.specs.Functions.{changed}
 use Rattle.brisk_values.specs.Names.{Name, same_name, same_process}
@@ -8,7 +8,6 @@ use Rattle.brisk_syntax.specs.declared.tree.Who.{Who}
 use Rattle.brisk_syntax.specs.Stores.{stored, with_variables}
 use Rattle.brisk_syntax.specs.Syntax.{Expression, Send, Recv, Code, ◌⨾◌, ◌then◌}
 use Rattle.brisk_syntax.specs.Value.{value_of}
-use Rattle.brisk_async.specs.declared.event.Event.{Event}
 use Rattle.brisk_async.specs.Laws.{plain_event}
 use Rattle.brisk_async.specs.Machine.{Mail, Payload, Queue, same_queue, queue, payload_at, appended, taken, changed_mail, effect, seen_by, after}
 use Rattle.brisk_async.proofs.Queues.{queue_laws, exact_queue}

@@ -1,10 +1,10 @@
 -- A receive from any on its own: one member is picked.
-use Rattle.std.proofs.Common.{◌≡◌, ℕ, ◌+◌, Bool, true, false, List, ◌∷◌, ◌++◌, Option, Some, refl, sym, ap, ◌∙◌, subst, arith, inl, inr}
-use Rattle.std.specs.Prelude.{if◌then◌else◌, ◌&&◌, ◌⊎◌, nat_lt}
+use Rattle.std.proofs.Common.{◌≡◌, ℕ, true, false, List, ◌∷◌, ◌++◌, Option, Some, refl, sym, ap, ◌∙◌, subst, arith, inl, inr}
+use Rattle.std.specs.Prelude.{if◌then◌else◌, nat_lt}
 use Rattle.brisk_values.specs.declared.value.Pid.{Pid}
 use Rattle.brisk_values.specs.declared.value.Value.{Value}
 use Rattle.brisk_values.specs.Functions.{changed}
-use Rattle.brisk_values.specs.Names.{Name, same_name, same_process, member}
+use Rattle.brisk_values.specs.Names.{Name, same_name, member}
 use Rattle.brisk_values.proofs.Changes.{name_laws, process_laws, exact_name, exact_process, changed-other, changed-same}
 use Rattle.brisk_syntax.specs.Syntax.{Code, done, ◌then◌}
 use Rattle.brisk_syntax.specs.Value.{or_false}
@@ -13,7 +13,7 @@ use Rattle.brisk_async.specs.declared.event.Event.{Event}
 use Rattle.brisk_async.specs.Laws.{AnyReceive, any_code, named, count, from_any, from_named}
 use Rattle.brisk_async.specs.Machine.{State, run, IsTerminal}
 use Rattle.brisk_async.proofs.Named.{head_named}
-use Rattle.brisk_async.proofs.Senders.{Sent, counts_alike}
+use Rattle.brisk_async.proofs.Senders.{counts_alike}
 use Rattle.brisk_state.specs.declared.thread.Mode.{Mode}
 use Rattle.brisk_state.specs.declared.thread.Mode.TheVariants as thread_mode
 use Rattle.brisk_state.specs.Symbolic.{key}
@@ -74,20 +74,20 @@ module _ (world : World) (T : Typing world) (S : Reading) (t : Name) (a : AnyRec
   abbrev receive : AnyReceive
   receive = stands φ a X
 
-  at_receive : c.code p ≡ any_code receive
+  pub at_receive : c.code p ≡ any_code receive
   at_receive = events.own_code world S κ φ c picks t entry.active f ∙ ap (λ z. code_by φ z then κ p) entry.is
 
-  abbrev κ' : Pid → Code
+  abbrev pub κ' : Pid → Code
   κ' = behind_it world T S t a entry.set entry.active κ φ picks X
 
   module _ (m : ℕ) (inside : nat_lt m (world.given.sizes s) ≡ true) where
-    abbrev taken : Conf
+    abbrev pub taken : Conf
     taken = took φ a X p c m
 
     free_body : Free s a.body
     free_body = (subst (Free s) entry.is (entry.free t)).0
 
-    fits_taken : Fits world (pick_start S t a) κ' (in_focus s m φ) taken
+    pub fits_taken : Fits world (pick_start S t a) κ' (in_focus s m φ) taken
     fits_taken =
         took_fits world T S t a entry.set entry.active κ φ picks X m free_body c c (λ k. refl) S.code (changed same_name S.code t (from_focus a)) refl
         (enters world S s φ S m entry.set inside (λ j. false) refl S.code κ c (none_served world S s φ S entry.set (λ j. false) S.code κ c (λ j. refl) refl f) entry.free)
@@ -95,7 +95,7 @@ module _ (world : World) (T : Typing world) (S : Reading) (t : Name) (a : AnyRec
     still_taken : Still world (focused S.mode s) (in_focus s m φ) c taken
     still_taken = took_still world T S t a entry.set entry.active κ φ picks X m free_body c c (λ k. refl)
 
-    typed_taken : T.IsTyped taken
+    pub typed_taken : T.IsTyped taken
     typed_taken = typed_in world T S t a entry.set entry.active κ φ picks X c m typed at_receive inside
 
     module _ (d : Conf) (g : Fits world E κ' (in_focus s m φ) d) where
@@ -119,8 +119,8 @@ module _ (world : World) (T : Typing world) (S : Reading) (t : Name) (a : AnyRec
       returned : d.code p ≡ X
       returned =
           let h : live world (focused S.mode s) (in_focus s m φ) p ≡ true =
-              subst (λ (q : Pid). live world (focused S.mode s) (in_focus s m φ) q ≡ true) (same_focus world T S t a entry.set entry.active κ φ picks X m)
-              (active_live world (focused S.mode s) (in_focus s m φ) t (picks_in S.mode s φ m picks) (act_in world T S t a entry.set entry.active κ φ picks X m)) in
+          subst (λ (q : Pid). live world (focused S.mode s) (in_focus s m φ) q ≡ true) (same_focus world T S t a entry.set entry.active κ φ picks X m)
+          (active_live world (focused S.mode s) (in_focus s m φ) t (picks_in S.mode s φ m picks) (act_in world T S t a entry.set entry.active κ φ picks X m)) in
           code_there p (active_live world S.mode φ t picks entry.active) h
           ∙ ap (λ z. code_by φ (changed same_name E.code t a.rest z) then κ p) (picks.role_of t) ∙ ap (λ z. code_by φ z then κ p) (changed-same name_laws E.code t a.rest)
 
@@ -181,7 +181,7 @@ module _ (world : World) (T : Typing world) (S : Reading) (t : Name) (a : AnyRec
               ]
 
     -- the premise's events, with the sender in the receiver's first
-    arrives : (d : Conf) (u : List Event) → Arrives world T (pick_start S t a) E κ' (in_focus s m φ) taken d u → (v : List Event) × Arrives world T S (after_pick S t a E) κ φ c d v × ((q : Pid) → count q v ≡ count q u)
+    pub arrives : (d : Conf) (u : List Event) → Arrives world T (pick_start S t a) E κ' (in_focus s m φ) taken d u → (v : List Event) × Arrives world T S (after_pick S t a E) κ φ c d v × ((q : Pid) → count q v ≡ count q u)
     arrives d u w =
         let x = with_sender world T S t a entry.set entry.active κ φ picks X c m at_receive inside d u w.runs (returned d w.fits) in
         let still = still_then world (focused S.mode s) (in_focus s m φ) c taken d still_taken w.still in (

@@ -9,15 +9,14 @@ use Rattle.brisk_syntax.specs.declared.tree.Who.{Who}
 use Rattle.brisk_syntax.specs.declared.tree.Who.TheVariants as who
 use Rattle.brisk_syntax.specs.Substitution.{code_with}
 use Rattle.brisk_syntax.specs.Syntax.{Code, done, ◌⨾◌, ◌then◌}
-use Rattle.brisk_seq.specs.Sequential.{Focus, in_focus}
+use Rattle.brisk_seq.specs.Sequential.{Focus}
 use Rattle.brisk_async.specs.declared.event.Event.{Event}
 use Rattle.brisk_async.specs.Laws.{AnyReceive, any_code, count, from_any}
-use Rattle.brisk_async.specs.Machine.{State, View, Queue, Payload, queue, payload_at, partner, place_of, takes, receives, is_member, effect, seen_by, after, run, step}
+use Rattle.brisk_async.specs.Machine.{State, View, Queue, queue, payload_at, partner, place_of, takes, receives, is_member, effect, seen_by, after, run, step}
 use Rattle.brisk_async.proofs.Named.{same_run}
 use Rattle.brisk_async.proofs.Senders.{kept_before}
 use Rattle.brisk_quiet.specs.Quiet.{Counts}
 use Rattle.brisk_state.specs.declared.thread.Mode.{Mode}
-use Rattle.brisk_state.specs.declared.thread.Mode.TheVariants as thread_mode
 use Rattle.brisk_state.specs.Symbolic.{key}
 use Rattle.brisk_loops.specs.Does as seq
 use Rattle.brisk_loops.specs.Does.{Does}

@@ -1,6 +1,6 @@
 -- A gather and a pick, from the tests of entry and close to what they say of readings.
-use Rattle.std.proofs.Common.{◌≡◌, ℕ, zero, suc, Bool, true, false, List, [], ◌∷◌, length, Option, Some, None, refl, sym, ap, ◌∙◌, subst, nat_eq, arith}
-use Rattle.std.specs.Prelude.{if◌then◌else◌, ◌||◌, not, Result, Ok, Err}
+use Rattle.std.proofs.Common.{◌≡◌, ℕ, zero, Bool, true, false, List, [], ◌∷◌, length, Option, Some, None, refl, sym, ap, ◌∙◌, subst, nat_eq, arith}
+use Rattle.std.specs.Prelude.{if◌then◌else◌, ◌||◌, not, Ok}
 use Rattle.std.proofs.lemmas.Bool.{eqb-true}
 use Rattle.std.proofs.lemmas.Option.{same_Some}
 use Rattle.brisk_values.specs.declared.value.Value.{Value}
@@ -9,7 +9,6 @@ use Rattle.brisk_values.specs.Names.{Name, same_name}
 use Rattle.brisk_values.proofs.Changes.{name_laws, exact_name}
 use Rattle.brisk_syntax.specs.declared.program.Decl.{Decl}
 use Rattle.brisk_syntax.specs.declared.program.Program.{Program}
-use Rattle.brisk_syntax.specs.declared.tree.Who.{Who}
 use Rattle.brisk_syntax.specs.declared.tree.Who.TheVariants as who
 use Rattle.brisk_syntax.specs.Substitution.{who_with}
 use Rattle.brisk_syntax.specs.Syntax.{RecvAny, Repeat, Code, done, ◌⨾◌}
@@ -21,11 +20,10 @@ use Rattle.brisk_facts.specs.Facts.{fact}
 use Rattle.brisk_state.specs.declared.thread.Mode.{Mode}
 use Rattle.brisk_state.specs.declared.thread.Mode.TheVariants.{One, At, Each}
 use Rattle.brisk_state.specs.declared.thread.Thread.{Thread}
-use Rattle.brisk_state.specs.Symbolic.{Key, key, Symbolic, thread_named, partner_of, is_partner, with_code, with_mode, numbers_at}
-use Rattle.brisk_basic.specs.Outcomes.{when}
+use Rattle.brisk_state.specs.Symbolic.{key, Symbolic, thread_named, partner_of, with_code, with_mode, numbers_at}
 use Rattle.brisk_quiet.specs.Quiet.{Walked, Blocks, Ends, Sends, walk, comes_out}
 use Rattle.brisk_derivtext.specs.declared.fault.SideFault.{SideFault}
-use Rattle.brisk_derivtext.specs.declared.fault.SideFault.TheVariants.{MayBeEmpty, MailLeft, NotQuiet}
+use Rattle.brisk_derivtext.specs.declared.fault.SideFault.TheVariants.{MayBeEmpty}
 use Rattle.brisk_derivtext.specs.declared.steps.Fact.{Fact}
 use Rattle.brisk_loops.specs.declared.why.Why.TheVariants.{Side}
 use Rattle.brisk_loops.specs.Heads.{any_of, gather_of, from_focus}
@@ -35,17 +33,17 @@ use Rattle.brisk_loops.proofs.Closing.{Closed, first_none, unless_none}
 use Rattle.brisk_loops.proofs.Derives.{Gatherings, Pickings}
 use Rattle.brisk_loops.proofs.Entered.{same_ok, when_ok, at_head_ok, Opens, dropped, drops_weaken}
 use Rattle.brisk_loops.proofs.Fine.{Fine, fine_map}
-use Rattle.brisk_loops.proofs.Focused.{owners_among, AllThere, in_focus_of, begins, tidy_opened, owner_done, stands_still, mail_still, facts_still, modes_closed, codes_closed, names_closed, facts_closed, kept_opened, free_end, inner_end}
+use Rattle.brisk_loops.proofs.Focused.{AllThere, begins, tidy_opened, owner_done, stands_still, mail_still, facts_still, modes_closed, codes_closed, names_closed, facts_closed, kept_opened, free_end, inner_end}
 use Rattle.brisk_loops.proofs.For.{owners}
 use Rattle.brisk_loops.proofs.Free.{Free}
-use Rattle.brisk_loops.proofs.Gather.{gather_at, Gathered, gather_start}
+use Rattle.brisk_loops.proofs.Gather.{gather_at}
 use Rattle.brisk_loops.proofs.Kept.{Kept, kept_then, kept_weaker, kept_for, kept_pick, free_with, Tidy, is_set_mode, decls_by}
 use Rattle.brisk_loops.proofs.Member.{not_a_set}
 use Rattle.brisk_loops.proofs.Middle.{focused, set_at}
 use Rattle.brisk_loops.proofs.Opened.{facts_outside, not_both_of}
-use Rattle.brisk_loops.proofs.Pick.{Picked, pick_start, after_pick}
+use Rattle.brisk_loops.proofs.Pick.{after_pick}
 use Rattle.brisk_loops.proofs.Quiet.{IsQuiet}
-use Rattle.brisk_loops.proofs.Readings.{Reading, reading, is_active, stands_by}
+use Rattle.brisk_loops.proofs.Readings.{Reading, reading, stands_by}
 use Rattle.brisk_loops.proofs.Threads.{names, modes, codes, Moved}
 use Rattle.brisk_loops.proofs.Walks.{walk_by, Calm, walk_is}
 
@@ -269,9 +267,9 @@ gather_opens P S t drops r e =
       gives = λ X. refl;
       tidy = λ tidy. tidy_any P S t a c m drops (Outside a.set) (gather_tests t a) (item.ForAny a.set) (gather_fine P S t a c m drops is) (gather_free P S t a c m drops is) (λ us. refl) (set tidy) tidy;
       closes = λ E S' tidy named kept k. (
-          gather_is_gathering P S t a c m drops is (set tidy) E S' named kept k tidy,
-          names_any P S t a c m drops (Outside a.set) (gather_tests t a) (item.ForAny a.set) (gather_fine P S t a c m drops is) (gather_free P S t a c m drops is) (λ us. refl) (set tidy) E S' named kept k,
-          gather_kept P S t a c m drops is (set tidy) E S' named kept k,
+        gather_is_gathering P S t a c m drops is (set tidy) E S' named kept k tidy,
+        names_any P S t a c m drops (Outside a.set) (gather_tests t a) (item.ForAny a.set) (gather_fine P S t a c m drops is) (gather_free P S t a c m drops is) (λ us. refl) (set tidy) E S' named kept k,
+        gather_kept P S t a c m drops is (set tidy) E S' named kept k,
       );
     }
       where
@@ -372,9 +370,9 @@ pick_opens P S t drops r e =
       gives = λ X. refl;
       tidy = λ tidy. tidy_any P S t a c m drops (Inside a.set) (λ E. []) (item.Pick a.set) (pick_fine P S t a c m drops is) (pick_free P S t a c m drops is) (λ us. refl) (set tidy) tidy;
       closes = λ E S' tidy named kept k. (
-          pick_is_picking P S t a c m drops is (set tidy) E S' named kept k tidy,
-          names_any P S t a c m drops (Inside a.set) (λ E. []) (item.Pick a.set) (pick_fine P S t a c m drops is) (pick_free P S t a c m drops is) (λ us. refl) (set tidy) E S' named kept k,
-          pick_kept P S t a c m drops is (set tidy) E S' named kept k,
+        pick_is_picking P S t a c m drops is (set tidy) E S' named kept k tidy,
+        names_any P S t a c m drops (Inside a.set) (λ E. []) (item.Pick a.set) (pick_fine P S t a c m drops is) (pick_free P S t a c m drops is) (λ us. refl) (set tidy) E S' named kept k,
+        pick_kept P S t a c m drops is (set tidy) E S' named kept k,
       );
     }
       where

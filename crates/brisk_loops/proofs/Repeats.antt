@@ -32,7 +32,7 @@ module _ (world : World) (T : Typing world) (S : Reading) (t s : Name) (b rest :
   after_repeat = record S { code = changed same_name S.code t rest }
 
   module _ (R : Does) (E : Reading) (act : is_active (S.mode t) ≡ true) (turn : Sound world T repeat_start R E) (w : Restored S E t) where
-    restored : (k : ℕ) → Restored (repeat_at k) E t
+    pub restored : (k : ℕ) → Restored (repeat_at k) E t
     restored k = record {
       owner = w.owner;
       mode = w.mode;
@@ -41,10 +41,10 @@ module _ (world : World) (T : Typing world) (S : Reading) (t s : Name) (b rest :
       facts = w.facts;
     }
 
-    at_is : (k : ℕ) → (repeat_at k).code t ≡ Repeat s k b ⨾ rest
+    pub at_is : (k : ℕ) → (repeat_at k).code t ≡ Repeat s k b ⨾ rest
     at_is k = changed-same name_laws S.code t (Repeat s k b ⨾ rest)
 
-    begins : (k : ℕ) → nat_lt k (world.given.sizes s) ≡ true → (κ : Pid → Code) (φ : Focus) (c : Conf) → Picks S.mode φ → Fits world (repeat_at k) κ φ c → Silent world (repeat_at k) (behind (repeat_at (k + 1)) t φ κ) φ c (φ t) repeat_start
+    pub begins : (k : ℕ) → nat_lt k (world.given.sizes s) ≡ true → (κ : Pid → Code) (φ : Focus) (c : Conf) → Picks S.mode φ → Fits world (repeat_at k) κ φ c → Silent world (repeat_at k) (behind (repeat_at (k + 1)) t φ κ) φ c (φ t) repeat_start
     begins k inside κ φ c picks f =
         let X = code_by φ ((repeat_at (k + 1)).code t) then κ (φ t) in
         let x = silent world (repeat_at k) κ (behind (repeat_at (k + 1)) t φ κ) φ c picks t act f record { same = λ q l d. changed-other process_laws κ (φ t) X q d } b (S.facts t)
@@ -62,7 +62,7 @@ module _ (world : World) (T : Typing world) (S : Reading) (t s : Name) (b rest :
           still = x.still;
         }
 
-    leaves : (κ : Pid → Code) (φ : Focus) (c : Conf) → Picks S.mode φ → Fits world (repeat_at (world.given.sizes s)) κ φ c → Silent world (repeat_at (world.given.sizes s)) κ φ c (φ t) after_repeat
+    pub leaves : (κ : Pid → Code) (φ : Focus) (c : Conf) → Picks S.mode φ → Fits world (repeat_at (world.given.sizes s)) κ φ c → Silent world (repeat_at (world.given.sizes s)) κ φ c (φ t) after_repeat
     leaves κ φ c picks f =
         let k = world.given.sizes s in
         let x = silent world (repeat_at k) κ κ φ c picks t act f record { same = λ q l d. refl } rest (S.facts t) (events.own_facts world (repeat_at k) κ φ c picks t act f)

@@ -1,8 +1,7 @@
 -- A member that is quiet stays so while the receiver does nothing.
 use Rattle.std.proofs.Common.{◌≡◌, ℕ, zero, suc, ◌+◌, ◌-◌, ◌≤◌, Bool, true, false, List, [], ◌∷◌, ◌++◌, length, Option, Some, None, refl, sym, ap, ◌∙◌, subst, arith}
-use Rattle.std.specs.Prelude.{if◌then◌else◌, ◌&&◌, not, nat_lt, option_map, option_and_then}
+use Rattle.std.specs.Prelude.{if◌then◌else◌, ◌&&◌, not, nat_lt, option_and_then}
 use Rattle.brisk_values.specs.declared.value.Pid.{Pid}
-use Rattle.brisk_values.specs.declared.value.Value.{Value}
 use Rattle.brisk_values.specs.Names.{Name, same_name, same_process, member}
 use Rattle.brisk_values.proofs.Changes.{name_laws, process_laws, exact_name, exact_process, both_true, changed-other, changed-same, apart_symm, changed_cases}
 use Rattle.brisk_syntax.specs.declared.tree.Who.{Who}
@@ -17,7 +16,7 @@ use Rattle.brisk_async.proofs.Orders.{IsOwn, own_in, waits_in}
 use Rattle.brisk_async.proofs.Queues.{exact_queue}
 use Rattle.brisk_async.proofs.Runs.{mapped}
 use Rattle.brisk_quiet.specs.Quiet.{Counts, Walked, Blocks, Ends, Sends, on_end, either, unless_sends, if_any, one_less}
-use Rattle.brisk_loops.proofs.Walks.{is_named, hide, walk_by, Fewer, Le, Calm, calm_le, on_end_le, either_le, fewer_trans, Keeps, walk_by_le, walk_mono, walk_then, Bounded, walk_bounded}
+use Rattle.brisk_loops.proofs.Walks.{hide, walk_by, Fewer, Le, Calm, calm_le, on_end_le, either_le, fewer_trans, Keeps, walk_by_le, walk_mono, walk_then, Bounded, walk_bounded}
 
 and_end : (a b : Bool) → b ≡ false → (a && b) ≡ false
 and_end true b e = e
@@ -167,8 +166,8 @@ module _ (p w : Pid) (C : Name) where
   effect_calm v (RecvAny d xs x s b ⨾ k) (Some z) place n counted h =
       elim (is_member v.sizes s z) as (λ t. StaysCalm n (if t then receives v (queue z w d) xs (code_with x (who.Pid z) b then k) place else None)) [
         | true ↦ receives_calm v n (queue z w d) xs (code_with x (who.Pid z) b then k) place (λ j m e n' l.
-          calm_after (code_with x (who.Pid z) b) k n' (walk_by (hide x from) C b n)
-          (walk_by_le (hide x from) from (who_with x (who.Pid z)) C b n' n (keeps_with from x z) (fewer_trans n' (left_after (taken (queue z w d) j) n) n l (left_less (queue z w d) j n))) h)
+            calm_after (code_with x (who.Pid z) b) k n' (walk_by (hide x from) C b n)
+            (walk_by_le (hide x from) from (who_with x (who.Pid z)) C b n' n (keeps_with from x z) (fewer_trans n' (left_after (taken (queue z w d) j) n) n l (left_less (queue z w d) j n))) h)
         | false ↦ tt
       ]
   effect_calm v (If e a ⨾ k) None None n counted h =

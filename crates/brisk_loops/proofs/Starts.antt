@@ -1,7 +1,7 @@
 -- Where a derivation starts: the initial state reads as the roles are written, and it is tidy.
-use Rattle.std.proofs.Common.{◌≡◌, ℕ, Bool, true, false, List, [], ◌∷◌, ◌++◌, map, Option, Some, None, refl, sym, ap, ◌∙◌, subst, arith}
+use Rattle.std.proofs.Common.{◌≡◌, Bool, true, false, List, [], ◌∷◌, ◌++◌, map, Option, Some, None, refl, sym, ap, ◌∙◌, subst, arith}
 use Rattle.std.specs.List.{AllByRecursion, list_any}
-use Rattle.std.specs.Prelude.{if◌then◌else◌, ◌&&◌, ◌||◌, ◌≤◌, ◌<◌, not, nat_lt, option_map}
+use Rattle.std.specs.Prelude.{if◌then◌else◌, ◌&&◌, ◌||◌, ◌≤◌, not, nat_lt, option_map}
 use Rattle.std.proofs.lemmas.Bool.{lt-ltb}
 use Rattle.std.proofs.lemmas.Option.{same_Some}
 use Rattle.brisk_values.specs.declared.value.Pid.{Pid}
@@ -16,15 +16,15 @@ use Rattle.brisk_syntax.specs.declared.tree.Who.{Who}
 use Rattle.brisk_syntax.specs.declared.tree.Who.TheVariants as who
 use Rattle.brisk_syntax.specs.Declarations.{constant_value, role_named, decls_of, variable_of}
 use Rattle.brisk_syntax.specs.Declarations as declarations
-use Rattle.brisk_syntax.specs.Instance.{Instance, Fits, RoleFits, least, processes, set_size, set_sizes, first_value}
+use Rattle.brisk_syntax.specs.Instance.{Instance, Fits, RoleFits, processes, set_size, set_sizes, first_value}
 use Rattle.brisk_syntax.specs.Roles.{RoleText}
 use Rattle.brisk_syntax.specs.Syntax.{Statement, Assign, Send, Recv, RecvAny, If, IfElse, While, For, Repeat, Code, done, ◌⨾◌}
-use Rattle.brisk_syntax.specs.Typing.{is_among, are_distinct, is_set}
-use Rattle.brisk_syntax.specs.WellTyped.{globals, is_partner, IsWellTyped, IsCodeWellTyped, IsRoleWellTyped, IsProgramWellTyped}
+use Rattle.brisk_syntax.specs.Typing.{is_among, are_distinct}
+use Rattle.brisk_syntax.specs.WellTyped.{is_partner, IsWellTyped, IsCodeWellTyped, IsRoleWellTyped, IsProgramWellTyped}
 use Rattle.brisk_seq.specs.Sequential.{Focus}
 use Rattle.brisk_facts.specs.Facts.{Facts, fact, with_fact}
 use Rattle.brisk_state.specs.declared.thread.Mode.{Mode}
-use Rattle.brisk_state.specs.declared.thread.Mode.TheVariants.{One, At, Each}
+use Rattle.brisk_state.specs.declared.thread.Mode.TheVariants.{One, Each}
 use Rattle.brisk_state.specs.Symbolic.{thread_named, first_thread, first_facts, all_first_facts, initial}
 use Rattle.brisk_loops.specs.Rules.{mode_of, code_in, is_nonempty}
 use Rattle.brisk_loops.proofs.Fine.{Fine, typed_fine}

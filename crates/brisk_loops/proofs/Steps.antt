@@ -1,22 +1,17 @@
 -- Derivations are sound.
-use Rattle.std.proofs.Common.{◌≡◌, ℕ, true, List, [], ◌∷◌, Option, Some, None, refl, sym, ap, ◌∙◌, subst}
+use Rattle.std.proofs.Common.{◌≡◌, true, [], Option, Some, None, refl, sym, subst}
 use Rattle.std.specs.Prelude.{nat_lt}
-use Rattle.brisk_values.specs.declared.value.Pid.{Pid}
 use Rattle.brisk_values.specs.Names.{Name}
 use Rattle.brisk_syntax.specs.declared.program.Program.{Program}
-use Rattle.brisk_syntax.specs.Syntax.{Code}
 use Rattle.brisk_seq.specs.Items.{Item, Items, nothing, ◌⨟◌, ◌followed_by◌}
 use Rattle.brisk_seq.specs.Items as item
 use Rattle.brisk_seq.specs.Sequential.{Focus}
-use Rattle.brisk_async.specs.declared.event.Event.{Event}
-use Rattle.brisk_async.specs.Machine.{State}
 use Rattle.brisk_state.specs.declared.thread.Mode.{Mode}
 use Rattle.brisk_state.specs.Symbolic.{Symbolic}
 use Rattle.brisk_basic.specs.declared.rule.Basic.{Basic}
 use Rattle.brisk_basic.specs.Basic.{Applied}
 use Rattle.brisk_derivtext.specs.Steps.{Step, Steps}
 use Rattle.brisk_loops.specs.Derives.{items_in, rule_of}
-use Rattle.brisk_loops.specs.Does as seq
 use Rattle.brisk_loops.specs.Does.{Mem, Does, does, does_all, stays, ◌andthen◌}
 use Rattle.brisk_loops.specs.Rules.{is_nonempty}
 use Rattle.brisk_loops.proofs.Applied.{Applies, assigns, fills, takes, passes, knows_if, knows_while}
@@ -25,7 +20,7 @@ use Rattle.brisk_loops.proofs.Branch.{sound_branch, sound_weaker}
 use Rattle.brisk_loops.proofs.Compose.{sound_then}
 use Rattle.brisk_loops.proofs.Control.{Weaker, weaken}
 use Rattle.brisk_loops.proofs.Derives.{Takes_step, by_rule, by_branch, by_while, by_repeat, by_for, by_gather, by_pick, Takes_steps, ended, next}
-use Rattle.brisk_loops.proofs.Fits.{World, Conf, mem, Picks, Fits, Still}
+use Rattle.brisk_loops.proofs.Fits.{World, mem, Picks, Still}
 use Rattle.brisk_loops.proofs.For.{sound_for}
 use Rattle.brisk_loops.proofs.Kept.{Tidy}
 use Rattle.brisk_loops.proofs.Leads as leads
@@ -35,7 +30,7 @@ use Rattle.brisk_loops.proofs.Pick.{sound_pick}
 use Rattle.brisk_loops.proofs.Quiet.{sound_gather}
 use Rattle.brisk_loops.proofs.Readings.{Reading, reading}
 use Rattle.brisk_loops.proofs.Repeats.{sound_repeat}
-use Rattle.brisk_loops.proofs.Sound.{Typing, Sound, Arrives, sound_going}
+use Rattle.brisk_loops.proofs.Sound.{Typing, Sound, sound_going}
 
 module _ (world : World) (T : Typing world) where
   sound_nothing : (S : Reading) → Sound world T S stays S

@@ -1,11 +1,10 @@
 -- A valid derivation gives a faithful program.
 use Rattle.std.proofs.Common.{◌≡◌, ◌↔◌, ℕ, Bool, true, false, List, [], ◌∷◌, map, Option, Some, None, refl, sym, ap, ◌∙◌, subst, nat_eq, arith}
-use Rattle.std.specs.Prelude.{if◌then◌else◌, ◌&&◌, ◌||◌, not, nat_lt, option_map, option_and_then, Result, Ok, Err}
+use Rattle.std.specs.Prelude.{if◌then◌else◌, ◌&&◌, ◌||◌, not, nat_lt, option_map, Ok}
 use Rattle.std.specs.List.{list_any}
 use Rattle.std.proofs.lemmas.Bool.{eqb-true, eqb-false, le-ltb, lt-ltb}
 use Rattle.std.proofs.lemmas.Option.{same_Some}
 use Rattle.brisk_values.specs.declared.value.Pid.{Pid}
-use Rattle.brisk_values.specs.declared.value.Value.{Value}
 use Rattle.brisk_values.specs.Names.{Name, same_name, same_process, single}
 use Rattle.brisk_values.proofs.Changes.{name_laws}
 use Rattle.brisk_syntax.specs.declared.program.Channel.{Channel}
@@ -22,17 +21,16 @@ use Rattle.brisk_seq.specs.declared.tree.SeqProgram.{SeqProgram}
 use Rattle.brisk_seq.specs.Items.{Items}
 use Rattle.brisk_seq.specs.Sequential.{Given, given_by, Ends}
 use Rattle.brisk_async.specs.declared.event.Event.{Event}
-use Rattle.brisk_async.specs.Machine.{State, start, effect, effect_in, seen_by, after, run, step, Reaches, IsHalted, IsTerminal, IsDeadlocked}
+use Rattle.brisk_async.specs.Machine.{State, start, effect, seen_by, after, run, step, Reaches, IsHalted, IsTerminal, IsDeadlocked}
 use Rattle.brisk_async.proofs.Begins.{start_kinded}
 use Rattle.brisk_async.proofs.Runs.{bound}
 use Rattle.brisk_derivtext.specs.Steps.{Steps}
-use Rattle.brisk_state.specs.declared.thread.Mode.{Mode}
-use Rattle.brisk_state.specs.declared.thread.Mode.TheVariants.{One, At, Each}
+use Rattle.brisk_state.specs.declared.thread.Mode.TheVariants.{One, Each}
 use Rattle.brisk_state.specs.declared.thread.Thread.{Thread}
 use Rattle.brisk_state.specs.Same.{same_code}
 use Rattle.brisk_state.specs.Symbolic.{Symbolic, thread_named, initial}
-use Rattle.brisk_loops.specs.Derives.{Failure, Derived, derive_all, first_unfinished, without_code, sequential, unless_unfinished, finish, Valid}
-use Rattle.brisk_loops.specs.Does.{Mem, Does, does_all, start_mem}
+use Rattle.brisk_loops.specs.Derives.{Derived, derive_all, first_unfinished, without_code, sequential, unless_unfinished, finish, Valid}
+use Rattle.brisk_loops.specs.Does.{Mem, Does, does_all}
 use Rattle.brisk_loops.specs.Faithful.{Halts, Faithful}
 use Rattle.brisk_loops.specs.Laws.{ValidIsFaithful}
 use Rattle.brisk_loops.specs.Rules.{code_in}
@@ -41,10 +39,9 @@ use Rattle.brisk_loops.proofs.Derives.{Takes_steps}
 use Rattle.brisk_loops.proofs.Entered.{and_then_ok}
 use Rattle.brisk_loops.proofs.Fits as fits
 use Rattle.brisk_loops.proofs.Fits.{World, Conf, mem, live, Picks}
-use Rattle.brisk_loops.proofs.Kept.{Kept}
 use Rattle.brisk_loops.proofs.Leads.{state}
 use Rattle.brisk_loops.proofs.Link.{ends_done}
-use Rattle.brisk_loops.proofs.Outcomes.{Comes, steps_come}
+use Rattle.brisk_loops.proofs.Outcomes.{steps_come}
 use Rattle.brisk_loops.proofs.Quiet.{then_done}
 use Rattle.brisk_loops.proofs.Readings.{Reading, reading, is_active, is_each, denoted, code_by}
 use Rattle.brisk_loops.proofs.Sound.{Typing, Sound, Arrives}
@@ -87,19 +84,19 @@ halted_terminal : (s : State) → IsHalted s → IsTerminal s
 halted_terminal s h e = elim (step s e) as (λ o. step s e ≡ o → o ≡ None) [ None ↦ λ g. refl | Some t ↦ λ g. absurd (no_event s t e h g) ] refl
 
 module _ (P : Program) (typed : IsProgramWellTyped P) (strict : (c : Name) → is_loose P.channels c ≡ false) (i : Instance) (fitting : Fits P i) where
-  abbrev world : World
+  abbrev pub world : World
   world = world_of P strict i
 
-  abbrev T : Typing world
+  abbrev pub T : Typing world
   T = typing P strict i
 
-  abbrev S0 : Reading
+  abbrev pub S0 : Reading
   S0 = reading (initial P)
 
-  abbrev c0 : Conf
+  abbrev pub c0 : Conf
   c0 = record { code = (start P i).code; store = (start P i).store; mail = (start P i).mail; box = λ n p q. None }
 
-  abbrev nothing_behind : Pid → Code
+  abbrev pub nothing_behind : Pid → Code
   nothing_behind p = done
 
   live_is : (p : Pid) → live world S0.mode single p ≡ is_there i p (role_named P.roles p.role)
@@ -112,7 +109,7 @@ module _ (P : Program) (typed : IsProgramWellTyped P) (strict : (c : Name) → i
   not_there p l = ap declarations.code_in (member_is i p (role_named P.roles p.role) ∙ ap (λ b. if b then role_named P.roles p.role else None) (sym (live_is p) ∙ l))
 
   -- the start of the instance fits the initial state
-  first_fits : fits.Fits world S0 nothing_behind single c0
+  pub first_fits : fits.Fits world S0 nothing_behind single c0
   first_fits = record {
     code = λ p l. ap declarations.code_in (role_there p l) ∙ sym (first_code P p.role) ∙ sym (first_plain P typed single p.role) ∙ sym (then_done (code_by single (S0.code p.role)));
     mail = λ p q l k C. refl;
@@ -121,14 +118,14 @@ module _ (P : Program) (typed : IsProgramWellTyped P) (strict : (c : Name) → i
     sets = λ p l e. refl;
   }
 
-  first_picks : Picks S0.mode single
+  pub first_picks : Picks S0.mode single
   first_picks = record { role_of = λ t. refl; one = λ t e. refl }
 
-  first_typed : T.IsTyped c0
+  pub first_typed : T.IsTyped c0
   first_typed = is_typed P strict i c0 (start_kinded P i typed fitting)
 
   module _ (R : Does) (E : Reading) (modes : E.mode ≡ S0.mode) (sound : Sound world T S0 R E) (finished : (u : Name) → E.code u ≡ done) where
-    halts : (d : Conf) (t : List Event) → Arrives world T S0 E nothing_behind single c0 d t → IsHalted (state world d)
+    pub halts : (d : Conf) (t : List Event) → Arrives world T S0 E nothing_behind single c0 d t → IsHalted (state world d)
     halts d t a p =
         elim (live world S0.mode single p) as (λ b. live world S0.mode single p ≡ b → d.code p ≡ done) [
           | true ↦ λ l. a.fits.code p (ap (λ m. denoted (set_sizes P.roles i) single (m p.role) p) modes ∙ l) ∙ ap (λ z. code_by single z then done) (finished p.role)
@@ -175,13 +172,13 @@ same_member : (i : Instance) (k : ℕ) (o : Option RoleText) → decls_of (with_
 same_member i k None = refl
 same_member i k (Some r) = elim (nat_lt k (processes i r)) as (λ b. decls_of (if b then Some (without_code r) else None) ≡ decls_of (if b then Some r else None)) [ true ↦ refl | false ↦ refl ]
 
-given_is : (P : Program) (X : Items) (i : Instance) → given_by (sequential P X) i ≡ given_in P i
+pub given_is : (P : Program) (X : Items) (i : Instance) → given_by (sequential P X) i ≡ given_in P i
 given_is P X i = λ j. record {
   sizes = λ s. (ap (set_size i) (stripped P.roles s) ∙ same_size i (role_named P.roles s)) j;
   kind = λ n. (ap (λ o. kind_in (decls_of o)) (stripped P.roles n) ∙ ap kind_in (same_decls (role_named P.roles n))) j;
 }
 
-store_is : (P : Program) (X : Items) (i : Instance) → start_store (sequential P X).roles i ≡ start_store P.roles i
+pub store_is : (P : Program) (X : Items) (i : Instance) → start_store (sequential P X).roles i ≡ start_store P.roles i
 store_is P X i = λ j p. first_value i p ((ap (λ o. decls_of (with_member i p.member o)) (stripped P.roles p.role) ∙ same_member i p.member (role_named P.roles p.role)) j)
 
 all_done : (ts : List Thread) → first_unfinished ts ≡ None → (u : Name) → codes ts u ≡ done
@@ -231,7 +228,7 @@ faithful P D Q typed strict valid =
         (ends_done (sequential P X) i store))
 
 -- a program without a loose channel has none of any name
-none_loose : (channels : List Channel) → not (list_any (λ d. d.loose) channels) ≡ true → (c : Name) → is_loose channels c ≡ false
+pub none_loose : (channels : List Channel) → not (list_any (λ d. d.loose) channels) ≡ true → (c : Name) → is_loose channels c ≡ false
 none_loose [] e c = refl
 none_loose (d ∷ ds) e c =
     elim d.loose as (λ b. not (b || list_any (λ d. d.loose) ds) ≡ true → ((same_name c d.name && b) || is_loose ds c) ≡ false) [

@@ -3,8 +3,8 @@ use Rattle.std.proofs.Common.{◌≡◌, ℕ, true, false, List, [], ◌∷◌, 
 use Rattle.std.specs.List.{AllByRecursion}
 use Rattle.std.specs.Prelude.{Bool, ◌&&◌, if◌then◌else◌, nat_lt}
 use Rattle.std.proofs.lemmas.Option.{same_Some}
-use Rattle.brisk_values.specs.declared.operation.Op1.TheVariants.{Neg, Not}
-use Rattle.brisk_values.specs.declared.operation.Op2.TheVariants.{And, Or, Eq, Ne}
+use Rattle.brisk_values.specs.declared.operation.Op1.TheVariants.{Not}
+use Rattle.brisk_values.specs.declared.operation.Op2.TheVariants.{And, Or, Ne}
 use Rattle.brisk_values.specs.declared.value.Kind.{Kind}
 use Rattle.brisk_values.specs.declared.value.Kind.TheVariants as kind
 use Rattle.brisk_values.specs.declared.value.Pid.{Pid}
@@ -13,13 +13,12 @@ use Rattle.brisk_values.specs.declared.value.Value.TheVariants as value
 use Rattle.brisk_values.specs.Names.{Name}
 use Rattle.brisk_values.specs.Values.{kind_of, same_kind}
 use Rattle.brisk_values.proofs.Changes.{name_laws}
-use Rattle.brisk_syntax.specs.declared.program.Decl.{Decl}
 use Rattle.brisk_syntax.specs.declared.program.Program.{Program}
 use Rattle.brisk_syntax.specs.Declarations.{kind_in, is_loose, role_named, decls_of}
-use Rattle.brisk_syntax.specs.Instance.{Instance, role_of, with_member, processes, set_sizes}
+use Rattle.brisk_syntax.specs.Instance.{Instance, with_member, processes, set_sizes}
 use Rattle.brisk_syntax.specs.Roles.{RoleText}
 use Rattle.brisk_syntax.specs.Stores.{is_true}
-use Rattle.brisk_syntax.specs.Syntax.{Expression, Var, Paren, Un, Bin, Statement, If, IfElse, While, Code, ◌⨾◌}
+use Rattle.brisk_syntax.specs.Syntax.{Expression, Paren, Un, Bin, Statement, If, IfElse, While, ◌⨾◌}
 use Rattle.brisk_syntax.specs.Typing.{Scope, HasKind}
 use Rattle.brisk_syntax.specs.Value.{value_of}
 use Rattle.brisk_seq.specs.Sequential.{Given, is_of_kind, are_of_kinds}

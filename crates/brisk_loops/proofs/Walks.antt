@@ -1,6 +1,6 @@
 -- Laws of the walk of the quiet test.
 use Rattle.std.proofs.Common.{◌≡◌, ℕ, zero, suc, ◌-◌, ◌≤◌, Bool, true, false, Option, Some, None, refl, sym, ap, ◌∙◌, subst, arith}
-use Rattle.std.specs.Prelude.{if◌then◌else◌, ◌&&◌, not, max}
+use Rattle.std.specs.Prelude.{if◌then◌else◌, ◌&&◌, not}
 use Rattle.brisk_values.specs.Names.{Name, same_name}
 use Rattle.brisk_values.proofs.Changes.{exact_name, both_true}
 use Rattle.brisk_syntax.specs.declared.tree.Who.{Who}

@@ -160,7 +160,7 @@ one_less_less n d c =
 pub fewer_trans : (n m k : Counts) → Fewer n m → Fewer m k → Fewer n k
 fewer_trans n m k h g c = let a = h c in let b = g c in omega (arith, a, b)
 
--- a change of partners under which the if_anyr stays the if_anyr
+-- a change of partners under which the receiver stays the receiver
 pub record Keeps (from from' : Who → Bool) (h : Who → Who) : Type 0 where
   pub stays : (u : Who) → from u ≡ true → from' (h u) ≡ true
   pub names : (u : Who) (n : Name) → h u ≡ who.Name n → u ≡ who.Name n

@@ -28,7 +28,7 @@ or_false : (b : Bool) → (b || false) ≡ b
 or_false true = refl
 or_false false = refl
 
-any_last : {X : Type 0} (p : X → Bool) (xs : List X) (x : X) → list_any p (xs ++ x ∷ []) ≡ (list_any p xs || p x)
+pub any_last : {X : Type 0} (p : X → Bool) (xs : List X) (x : X) → list_any p (xs ++ x ∷ []) ≡ (list_any p xs || p x)
 any_last p xs x = list_any-append p xs (x ∷ []) ∙ ap (λ b. list_any p xs || b) (or_false (p x))
 
 -- what one more item makes of a test of any
@@ -41,7 +41,7 @@ any_image f p xs i x lt at = ap (λ ys. list_any p (map f ys)) (take_item xs i x
 
 -- ---- one more key of an index
 
-some_or : {V : Type 0} (f : Option V) (b : Bool) (v : V) → is_some (option_or f (cond b (Some v) None)) ≡ (is_some f || b)
+pub some_or : {V : Type 0} (f : Option V) (b : Bool) (v : V) → is_some (option_or f (cond b (Some v) None)) ≡ (is_some f || b)
 some_or (Some w) b v = refl
 some_or None true v = refl
 some_or None false v = refl

@@ -42,6 +42,10 @@ abbrev pub placed_roles : ℕ → List RoleText → List Placed
 placed_roles i [] = []
 placed_roles i (r ∷ rs) = record { name = r.name; at = i + 1 } ∷ placed_roles (i + role_tokens r) rs
 
+-- the program that declares these
+abbrev pub program_of : List EnumDecl → List Channel → List RoleText → Program
+program_of enums channels roles = record { enums = enums; channels = channels; roles = roles }
+
 -- the token of a program's first channel, and of its first role
 abbrev pub channels_at : Program → ℕ
 channels_at P = sum_by enum_tokens P.enums

@@ -4,4 +4,5 @@ pub mod Expressions
 pub mod Names
 pub mod Statements
 pub mod Declarations
+pub mod Sequences
 pub mod Laws

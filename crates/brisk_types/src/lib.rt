@@ -11,9 +11,11 @@ mod laws;
 mod messages;
 mod names;
 mod places;
+mod processes;
 mod programs;
+mod sequences;
 mod statements;
 
 pub use fault::TypeFault;
-pub use laws::counted;
-pub use programs::check;
+pub use laws::{counted, seq_counted};
+pub use programs::{check, check_seq};

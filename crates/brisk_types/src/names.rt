@@ -4,7 +4,7 @@ ghost use Rattle.brisk_syntax.specs.Expressions.{expression_of};
 ghost use Rattle.brisk_syntax.specs.Declarations as declared;
 ghost use Rattle.brisk_syntax.specs.Typing as typing;
 ghost use Rattle.brisk_types.specs.Expressions as spec;
-ghost use Rattle.brisk_types.specs.Names.{global_meaning, known_enum, known_tag, meaning_of};
+ghost use Rattle.brisk_types.specs.Names.{global_meaning, known_enum, known_set, known_single, known_tag, meaning_of};
 ghost use Rattle.brisk_types.specs.Declarations as declarations;
 ghost use Rattle.brisk_types.specs.Statements as statements;
 
@@ -32,6 +32,14 @@ pub struct Names<'a> {
     pub globals: &'a Globals<'a>,
     pub own: Name,
     pub variables: Index<Key, Kind>,
+}
+
+/// What names mean in the items of a sequential program.
+#[derive(Drop)]
+pub struct Processes<'a> {
+    pub globals: &'a Globals<'a>,
+    /// What names mean in the text of each role.
+    pub names: Index<Key, &'a Names<'a>>,
 }
 
 /// Whether the name is one of these.
@@ -134,6 +142,18 @@ impl Globals<'_> {
         };
         self.tags.get(&key).is_some()
     }
+
+    pub fn is_set(&self, name: Name) -> bool
+        ensures { result ≡ known_set self.now name }
+    {
+        self.sets.get(&Key { name }).is_some()
+    }
+
+    pub fn is_single(&self, name: Name) -> bool
+        ensures { result ≡ known_single self.now name }
+    {
+        self.singles.get(&Key { name }).is_some()
+    }
 }
 
 impl<'a> Names<'a> {
@@ -168,13 +188,13 @@ impl<'a> Names<'a> {
     fn is_set(&self, name: Name) -> bool
         ensures { result ≡ (meaning_of self.now).is_set name }
     {
-        self.globals.sets.get(&Key { name }).is_some()
+        self.globals.is_set(name)
     }
 
     fn is_single(&self, name: Name) -> bool
         ensures { result ≡ (meaning_of self.now).is_single name }
     {
-        self.globals.singles.get(&Key { name }).is_some()
+        self.globals.is_single(name)
     }
 
     pub fn place(&self, name: Name) -> Option<u32>

@@ -1,7 +1,8 @@
 //! Statements and code.
 ghost use Rattle.std.specs.Prelude.{◌≡◌, ◌+◌, ◌<◌, ◌^◌, ◌++◌, [], ◌∷◌, IfOk, OnOk};
 ghost use Rattle.brisk_syntax.specs.Statements.{code_of, statement_of};
-ghost use Rattle.brisk_syntax.specs.Tokens.{code_tokens, name_tokens, statement_tokens};
+ghost use Rattle.brisk_syntax.specs.Syntax as tree;
+ghost use Rattle.brisk_syntax.specs.Tokens.{code_tokens, list_tokens, name_tokens, statement_tokens};
 ghost use Rattle.brisk_types.specs.Failures.{note_all};
 ghost use Rattle.brisk_types.specs.Names.{meaning_of};
 ghost use Rattle.brisk_types.specs.Statements as spec;
@@ -34,14 +35,38 @@ fn bound(names: &Names<'_>, binders: &[Name], v: Name, s: &Name, at: u32, first:
     first.note_some(names.set_rule(s), at + 2);
 }
 
-// A channel, whose name follows the token, and the variables of what is received on it.
-fn received(names: &Names<'_>, channel: Name, vars: &List, at: u32, first: &mut First)
+// A send that begins at the token. Answers the token after it.
+fn sent(
+    names: &Names<'_>,
+    binders: &[Name],
+    channel: Name,
+    exprs: &Exprs,
+    to: &Who,
+    at: u32,
+    first: &mut First,
+) -> u32
+    requires { at + 7 + list_tokens exprs.now < 2 ^ 32 }
+    ensures next { result ≡ at + 7 + list_tokens exprs.now }
+    ensures noted { first.new.failure ≡ note_all first.old.failure (spec.statement (meaning_of names.now) binders.now at (tree.Send channel exprs.now to.now)) }
+{
+    let kinds = names.kinds_on(channel);
+    first.note_some(channel_rule(kinds, exprs.items.len()), at + 1);
+    values(names, exprs, wanted_kinds(kinds), at + 3, first);
+    let end = at + 3 + expressions_tokens(exprs);
+    first.note_some(names.partner_rule(binders, to), end + 2);
+    end + 4
+}
+
+// A channel, whose name follows the token, and the variables of what is received on it. Answers the token after these.
+fn received(names: &Names<'_>, channel: Name, vars: &List, at: u32, first: &mut First) -> u32
     requires { at + name_tokens vars.now + 4 < 2 ^ 32 }
-    ensures { first.new.failure ≡ note_all first.old.failure (spec.received (meaning_of names.now) at channel vars.now) }
+    ensures next { result ≡ at + 3 + name_tokens vars.now }
+    ensures noted { first.new.failure ≡ note_all first.old.failure (spec.received (meaning_of names.now) at channel vars.now) }
 {
     let kinds = names.kinds_on(channel);
     first.note_some(channel_rule(kinds, vars.items.len()), at + 1);
     variables(names, &vars.items, wanted_kinds(kinds), at + 3, first);
+    at + 3 + names_tokens(vars)
 }
 
 impl Names<'_> {
@@ -65,30 +90,16 @@ impl Names<'_> {
                 Ok(expression(self, kind, e, at + 2, first) + 1)
             }
             Stmt::Send(channel, exprs, to) => {
-                let kinds = self.kinds_on(*channel);
-                first.note_some(channel_rule(kinds, exprs.items.len()), at + 1);
-                values(self, exprs, wanted_kinds(kinds), at + 3, first);
-                let end = at + 3 + expressions_tokens(exprs);
-                first.note_some(self.partner_rule(binders, to), end + 2);
-                Ok(end + 4)
+                Ok(sent(self, binders, *channel, exprs, to, at, first))
             }
             Stmt::Recv(channel, vars, from) => {
-                received(self, *channel, vars, at, first);
-                let end = at + 3 + names_tokens(vars);
+                let end = received(self, *channel, vars, at, first);
                 first.note_some(self.partner_rule(binders, from), end + 2);
                 Ok(end + 4)
             }
-            Stmt::RecvAny(receive) => {
-                received(self, receive.channel, &receive.vars, at, first);
-                let end = at + 3 + names_tokens(&receive.vars);
-                self.each(
-                    binders,
-                    receive.binder,
-                    &receive.set,
-                    &receive.body,
-                    end + 3,
-                    first,
-                )
+            Stmt::RecvAny(any) => {
+                let end = received(self, any.channel, &any.vars, at, first);
+                self.each(binders, any.binder, &any.set, &any.body, end + 3, first)
             }
             Stmt::If(e, then, otherwise) => {
                 let next = expression(self, Some(Kind::Bool), e, at + 1, first);

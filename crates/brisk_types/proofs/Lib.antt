@@ -1,7 +1,13 @@
 pub mod Lists
 pub mod Indexes
 pub mod Firsts
+pub mod Agreeing
+pub mod Coding
+pub mod Declaring
+pub mod Fresh
+pub mod Kinded
 pub mod Named
 pub mod Whole
+pub mod Sequencing
 pub mod Spelled
 pub mod Spelled_items

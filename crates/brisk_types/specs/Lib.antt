@@ -5,4 +5,5 @@ pub mod Names
 pub mod Statements
 pub mod Declarations
 pub mod Sequences
+pub mod Agreement
 pub mod Laws

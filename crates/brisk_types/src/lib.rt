@@ -1,6 +1,7 @@
 //! Types programs: names, kinds and channels, with the token of the first failure.
 #![tactic(auto)]
 
+mod agreement;
 mod count;
 mod declarations;
 mod expressions;
@@ -16,6 +17,7 @@ mod programs;
 mod sequences;
 mod statements;
 
+pub use agreement::{agreed, seq_agreed};
 pub use fault::TypeFault;
 pub use laws::{counted, seq_counted};
 pub use programs::{check, check_seq};

@@ -3,6 +3,7 @@ ghost use Rattle.std.specs.Prelude.{◌≡◌, option_map, OnOk};
 ghost use Rattle.brisk_syntax.specs.Expressions.{expression_of};
 ghost use Rattle.brisk_syntax.specs.Declarations as declared;
 ghost use Rattle.brisk_syntax.specs.Typing as typing;
+ghost use Rattle.brisk_values.specs.Values as values;
 ghost use Rattle.brisk_types.specs.Expressions as spec;
 ghost use Rattle.brisk_types.specs.Names.{global_meaning, known_enum, known_set, known_single, known_tag, meaning_of};
 ghost use Rattle.brisk_types.specs.Declarations as declarations;
@@ -50,7 +51,7 @@ pub fn is_among(names: &[Name], name: &Name) -> bool
 }
 
 pub fn same_kind(a: &Kind, b: &Kind) -> bool
-    ensures { result ≡ spec.same_kind a.now b.now }
+    ensures { result ≡ values.same_kind a.now b.now }
 {
     match (a, b) {
         (Kind::Int, Kind::Int) | (Kind::Bool, Kind::Bool) => true,

@@ -16,6 +16,8 @@ mod processes;
 mod programs;
 mod sequences;
 mod statements;
+#[cfg(test)]
+mod tests;
 
 pub use agreement::{agreed, seq_agreed};
 pub use fault::TypeFault;

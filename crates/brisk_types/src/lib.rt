@@ -19,7 +19,7 @@ mod statements;
 #[cfg(test)]
 mod tests;
 
-pub use agreement::{agreed, seq_agreed};
+pub use agreement::{agreed, seq_agreed, seq_within, within};
 pub use fault::TypeFault;
 pub use laws::{counted, seq_counted};
 pub use programs::{check, check_seq};

@@ -1,5 +1,5 @@
 -- Programs: no rule fails exactly where they are well typed.
-use Rattle.std.proofs.Common.{◌≡◌, ℕ, ◌+◌, true, List, [], ◌∷◌, sum_by, refl, sym, ap, subst, ◌∙◌}
+use Rattle.std.proofs.Common.{◌≡◌, ℕ, ◌+◌, true, List, [], ◌∷◌, sum_by, refl, sym, subst}
 use Rattle.std.specs.List.{AllByRecursion}
 use Rattle.brisk_values.specs.declared.value.Kind.{Kind}
 use Rattle.brisk_values.specs.Names.{Name}

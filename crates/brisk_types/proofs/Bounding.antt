@@ -1,5 +1,5 @@
 -- Each failure is at a token of the program.
-use Rattle.std.proofs.Common.{◌≡◌, ℕ, ◌+◌, ◌*◌, ◌<◌, ◌≤◌, inl, inr, Bool, true, false, ◌||◌, ◌&&◌, cond, not, List, [], ◌∷◌, ◌++◌, length, sum_by, Option, Some, None, refl, arith}
+use Rattle.std.proofs.Common.{◌≡◌, ℕ, ◌+◌, ◌*◌, ◌<◌, ◌≤◌, inl, inr, Bool, true, false, ◌||◌, not, List, [], ◌∷◌, ◌++◌, length, sum_by, Option, Some, None, refl, arith}
 use Rattle.std.specs.Prelude.{if◌then◌else◌}
 use Rattle.std.specs.Option.{is_none, is_some}
 use Rattle.std.proofs.lemmas.List.Sums.{sum_by-cons}
@@ -86,8 +86,10 @@ values_below n m i es ks h = values_spaced n m i es ks (omega (arith, spaced_is 
 variables_spaced : (n : ℕ) (m : Meaning) (before : List Name) (i : ℕ) (xs : List Name) (ks : List Kind) → i + 2 * length xs ≤ n + 1 → Bounded n (variables m before i xs ks)
 variables_spaced n m before i [] ks h = tt
 variables_spaced n m before i (x ∷ xs) ks h = (
-  (when_below n (is_none (m.kind_of_variable x)) Unknown i (omega arith),
-   (when_below n (is_among before x) Twice i (omega arith), when_below n (differ (first_kind ks) (m.kind_of_variable x)) WrongKind i (omega arith))),
+  (
+    when_below n (is_none (m.kind_of_variable x)) Unknown i (omega arith),
+    (when_below n (is_among before x) Twice i (omega arith), when_below n (differ (first_kind ks) (m.kind_of_variable x)) WrongKind i (omega arith)),
+  ),
   variables_spaced n m (before ++ x ∷ []) (i + 2) xs (other_kinds ks) (omega arith),
 )
 
@@ -164,18 +166,18 @@ module _ (n : ℕ) (m : Meaning) (p : PlacesBelow n m) where
     statement_below : (binders : List Name) (i : ℕ) (s : Statement) → i + statement_tokens s ≤ n → Bounded n (statement m binders i s)
     statement_below binders i (Assign x e) h = (when_below n (is_none (m.kind_of_variable x)) Unknown i (omega arith), wanted_below n m (m.kind_of_variable x) (i + 2) e (omega arith))
     statement_below binders i (Send c es u) h = (
-        broken_below n (channel_rule (m.kinds_on c) (length es)) (i + 1) (omega arith),
-        (values_below n m (i + 3) es (wanted_kinds (m.kinds_on c)) (omega arith), broken_below n (partner_rule m binders u) (i + 3 + list_tokens es + 2) (omega arith)),
+      broken_below n (channel_rule (m.kinds_on c) (length es)) (i + 1) (omega arith),
+      (values_below n m (i + 3) es (wanted_kinds (m.kinds_on c)) (omega arith), broken_below n (partner_rule m binders u) (i + 3 + list_tokens es + 2) (omega arith)),
     )
     statement_below binders i (Recv c xs u) h = (received_below i c xs (omega arith), broken_below n (partner_rule m binders u) (i + 3 + name_tokens xs + 2) (omega arith))
     statement_below binders i (RecvAny c xs v s b) h = (
-        received_below i c xs (omega arith),
-        (bound_below binders (i + 3 + name_tokens xs + 3) v s (omega arith), code_below (binders ++ v ∷ []) (i + 3 + name_tokens xs + 3 + 4) b (omega arith)),
+      received_below i c xs (omega arith),
+      (bound_below binders (i + 3 + name_tokens xs + 3) v s (omega arith), code_below (binders ++ v ∷ []) (i + 3 + name_tokens xs + 3 + 4) b (omega arith)),
     )
     statement_below binders i (If e a) h = (wanted_below n m (Some kind.Bool) (i + 1) e (omega arith), code_below binders (i + 1 + expression_tokens e + 1) a (omega arith))
     statement_below binders i (IfElse e a b) h = (
-        wanted_below n m (Some kind.Bool) (i + 1) e (omega arith),
-        (code_below binders (i + 1 + expression_tokens e + 1) a (omega arith), code_below binders (i + 1 + expression_tokens e + 1 + code_tokens a + 3) b (omega arith)),
+      wanted_below n m (Some kind.Bool) (i + 1) e (omega arith),
+      (code_below binders (i + 1 + expression_tokens e + 1) a (omega arith), code_below binders (i + 1 + expression_tokens e + 1 + code_tokens a + 3) b (omega arith)),
     )
     statement_below binders i (While e b) h = (wanted_below n m (Some kind.Bool) (i + 1) e (omega arith), code_below binders (i + 1 + expression_tokens e + 1) b (omega arith))
     statement_below binders i (For v s k b) h = (bound_below binders (i + 1) v s (omega arith), code_below (binders ++ v ∷ []) (i + 1 + 4) b (omega arith))
@@ -238,9 +240,10 @@ behind_below n m (d ∷ ds) p = behind_below n (behind m d) ds p
 
 role_below : (n : ℕ) (P : Program) (i : ℕ) (r : RoleText) → program_tokens P ≤ n → i + role_tokens r ≤ n → Bounded n (role (meaning P r.name) i r)
 role_below n P i r short h =
-    let p = meaning_below n P r.name short in
-    (declarations_below n (meaning P r.name) (i + heading_tokens r) r.decls p (omega arith),
-     code_below n (behind_all (meaning P r.name) r.decls) (behind_below n (meaning P r.name) r.decls p) [] (i + heading_tokens r + sum_by decl_tokens r.decls) r.code (omega arith))
+    let p = meaning_below n P r.name short in (
+      declarations_below n (meaning P r.name) (i + heading_tokens r) r.decls p (omega arith),
+      code_below n (behind_all (meaning P r.name) r.decls) (behind_below n (meaning P r.name) r.decls p) [] (i + heading_tokens r + sum_by decl_tokens r.decls) r.code (omega arith),
+    )
 
 all_roles_below : (n : ℕ) (P : Program) (i : ℕ) (rs : List RoleText) → program_tokens P ≤ n → i + sum_by role_tokens rs ≤ n → Bounded n (roles (meaning P) i rs)
 all_roles_below n P i [] short h = tt
@@ -255,7 +258,11 @@ program_below P r i f = bounded_fails (program_tokens P) (failures P) r i all f
     all : Bounded (program_tokens P) (failures P)
     all = (
       apart_below (program_tokens P) P (omega arith),
-      (enumerations_below (program_tokens P) 0 P.enums (omega arith),
-       (kinds_below (program_tokens P) (is_enum_of P.enums) (channels_at P) P.channels (omega arith),
-        all_roles_below (program_tokens P) P (roles_at P) P.roles (omega arith) (omega arith))),
+      (
+        enumerations_below (program_tokens P) 0 P.enums (omega arith),
+        (
+          kinds_below (program_tokens P) (is_enum_of P.enums) (channels_at P) P.channels (omega arith),
+          all_roles_below (program_tokens P) P (roles_at P) P.roles (omega arith) (omega arith),
+        ),
+      ),
     )

@@ -1,7 +1,6 @@
 -- Each failure of a sequential program is at a token of it.
-use Rattle.std.proofs.Common.{◌≡◌, ℕ, ◌+◌, ◌<◌, ◌≤◌, not, List, [], ◌∷◌, ◌++◌, length, sum_by, nat_eq, Option, Some, None, arith}
+use Rattle.std.proofs.Common.{ℕ, ◌+◌, ◌<◌, ◌≤◌, not, List, [], ◌∷◌, ◌++◌, length, sum_by, nat_eq, Option, Some, None, arith}
 use Rattle.std.proofs.lemmas.List.Sums.{sum_by-cons}
-use Rattle.brisk_values.specs.declared.value.Kind.{Kind}
 use Rattle.brisk_values.specs.declared.value.Kind.TheVariants as kind
 use Rattle.brisk_values.specs.Names.{Name}
 use Rattle.brisk_syntax.specs.declared.program.Program.{Program}
@@ -48,24 +47,32 @@ module _ (n : ℕ) (m : Meanings) where
   mutual
     item_below : (focus : List Name) (i : ℕ) (q : Item) → i + item_tokens q ≤ n → Bounded n (item m focus i q)
     item_below focus i (Pass to xs from es) h = (
-        when_below n (not (nat_eq (length xs) (length es))) WrongCount i (omega arith),
-        (stored_below focus i to xs (omega arith),
-         (broken_below n (process_rule m focus from) (i + 3 + name_tokens xs + 2) (omega arith),
-          process_below (m.meaning_at from) (λ k. passed k (m.meaning_at to) (i + 3 + name_tokens xs + 5) es xs) (λ k. passed_below k (m.meaning_at to) (i + 3 + name_tokens xs + 5) es xs (omega arith)))),
+      when_below n (not (nat_eq (length xs) (length es))) WrongCount i (omega arith),
+      (
+        stored_below focus i to xs (omega arith),
+        (
+          broken_below n (process_rule m focus from) (i + 3 + name_tokens xs + 2) (omega arith),
+          process_below (m.meaning_at from) (λ k. passed k (m.meaning_at to) (i + 3 + name_tokens xs + 5) es xs) (λ k. passed_below k (m.meaning_at to) (i + 3 + name_tokens xs + 5) es xs (omega arith)),
+        ),
+      ),
     )
     item_below focus i (Fill k from to es) h = (
-        broken_below n (process_rule m focus from) (i + 3) (omega arith),
-        (broken_below n (process_rule m focus to) (i + 5) (omega arith),
-         (broken_below n (process_rule m focus from) (i + 8) (omega arith),
-          process_below (m.meaning_at from) (λ k. values k (i + 11) es []) (λ k. values_below n k (i + 11) es [] (omega arith)))),
+      broken_below n (process_rule m focus from) (i + 3) (omega arith),
+      (
+        broken_below n (process_rule m focus to) (i + 5) (omega arith),
+        (
+          broken_below n (process_rule m focus from) (i + 8) (omega arith),
+          process_below (m.meaning_at from) (λ k. values k (i + 11) es []) (λ k. values_below n k (i + 11) es [] (omega arith)),
+        ),
+      ),
     )
     item_below focus i (Take to xs k from) h = (
-        stored_below focus i to xs (omega arith),
-        (broken_below n (process_rule m focus from) (i + 3 + name_tokens xs + 5) (omega arith), broken_below n (process_rule m focus to) (i + 3 + name_tokens xs + 7) (omega arith)),
+      stored_below focus i to xs (omega arith),
+      (broken_below n (process_rule m focus from) (i + 3 + name_tokens xs + 5) (omega arith), broken_below n (process_rule m focus to) (i + 3 + name_tokens xs + 7) (omega arith)),
     )
     item_below focus i (If p e a b) h = (
-        guard_below focus (i + 1) p e (omega arith),
-        (items_below focus (i + 4 + expression_tokens e + 2) a (omega arith), items_below focus (i + 4 + expression_tokens e + 2 + items_tokens a + 3) b (omega arith)),
+      guard_below focus (i + 1) p e (omega arith),
+      (items_below focus (i + 4 + expression_tokens e + 2) a (omega arith), items_below focus (i + 4 + expression_tokens e + 2 + items_tokens a + 3) b (omega arith)),
     )
     item_below focus i (While p e b) h = (guard_below focus (i + 1) p e (omega arith), items_below focus (i + 4 + expression_tokens e + 2) b (omega arith))
     item_below focus i (For s b) h = (broken_below n (focus_rule m focus s) (i + 1) (omega arith), items_below (focus ++ s ∷ []) (i + 1 + 2) b (omega arith))
@@ -90,7 +97,10 @@ sequence_below Q r i f = bounded_fails (seq_tokens Q) (seq_failures Q) r i all f
     all : Bounded (seq_tokens Q) (seq_failures Q)
     all =
         let n = seq_tokens Q in
-        let short : program_tokens (outline Q) ≤ n = omega arith in
-        (apart_below n (outline Q) short,
-         (enumerations_below n 0 Q.enums (omega arith),
-          (outlines_below n (outline Q) (roles_at (outline Q)) Q.roles short (omega arith), items_below n (meanings Q) [] (items_at Q) Q.body (omega arith))))
+        let short : program_tokens (outline Q) ≤ n = omega arith in (
+          apart_below n (outline Q) short,
+          (
+            enumerations_below n 0 Q.enums (omega arith),
+            (outlines_below n (outline Q) (roles_at (outline Q)) Q.roles short (omega arith), items_below n (meanings Q) [] (items_at Q) Q.body (omega arith)),
+          ),
+        )

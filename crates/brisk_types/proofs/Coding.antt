@@ -17,11 +17,10 @@ use Rattle.brisk_syntax.specs.Syntax.{Expression, Statement, Assign, Send, Recv,
 use Rattle.brisk_syntax.specs.Tokens.{expression_tokens, list_tokens, name_tokens, statement_tokens, code_tokens}
 use Rattle.brisk_syntax.specs.Typing.{is_among, is_set, is_single, HasKind}
 use Rattle.brisk_syntax.specs.WellTyped.{globals, scope_in, is_partner, is_other_set, is_fresh, CanSend, CanReceive, IsWellTyped, IsCodeWellTyped}
-use Rattle.brisk_types.specs.declared.fault.Rule.{Rule}
 use Rattle.brisk_types.specs.declared.fault.Rule.TheVariants.{Unknown, NotASet, NotSingle, SelfPartner, WrongCount}
 use Rattle.brisk_types.specs.Expressions.{Meaning, wanted}
-use Rattle.brisk_types.specs.Failures.{NoneFails, broken, when}
-use Rattle.brisk_types.specs.Statements.{binder, bound, partner_rule, set_rule, channel_rule, wanted_kinds, values, variables, received, statement, code}
+use Rattle.brisk_types.specs.Failures.{NoneFails, broken}
+use Rattle.brisk_types.specs.Statements.{binder, partner_rule, set_rule, channel_rule, wanted_kinds, values, variables, received, statement, code}
 use Rattle.brisk_types.proofs.Declaring.{new_binder, binder_new, is_declared}
 use Rattle.brisk_types.proofs.Fresh.{not_when, when_not, neither, both_false, not_false, fresh_distinct, all_fresh}
 use Rattle.brisk_types.proofs.Indexes.{any_last}

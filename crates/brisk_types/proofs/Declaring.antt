@@ -1,5 +1,5 @@
 -- Declarations: no rule fails exactly where they are well typed.
-use Rattle.std.proofs.Common.{◌≡◌, ℕ, ◌+◌, Bool, true, false, cond, ◌||◌, ◌&&◌, not, List, [], ◌∷◌, ◌++◌, map, Option, Some, None, refl, sym, ap, ◌∙◌}
+use Rattle.std.proofs.Common.{◌≡◌, ℕ, ◌+◌, true, false, cond, ◌||◌, not, List, [], ◌∷◌, ◌++◌, map, Option, Some, None, refl, sym, ap, ◌∙◌}
 use Rattle.std.specs.Prelude.{if◌then◌else◌}
 use Rattle.std.specs.List.{AllByRecursion}
 use Rattle.std.specs.Option.{is_some, option_or}
@@ -17,12 +17,12 @@ use Rattle.brisk_syntax.specs.declared.program.Program.{Program}
 use Rattle.brisk_syntax.specs.Declarations.{kind_in, is_tag, variable_of}
 use Rattle.brisk_syntax.specs.Roles.{RoleText}
 use Rattle.brisk_syntax.specs.Tokens.{decl_tokens, enum_tokens, channel_tokens, role_tokens}
-use Rattle.brisk_syntax.specs.Typing.{is_among, is_kind, ConstantHasKind, IsDeclWellTyped, AreDeclsWellTyped, global_names}
+use Rattle.brisk_syntax.specs.Typing.{is_among, is_kind, ConstantHasKind, IsDeclWellTyped, AreDeclsWellTyped}
 use Rattle.brisk_syntax.specs.WellTyped.{globals}
 use Rattle.brisk_types.specs.declared.fault.Rule.TheVariants.{Unknown, Twice}
 use Rattle.brisk_types.specs.Declarations.{placed, placed_enums, placed_channels, placed_roles, channels_at, roles_at, is_enum_of, meaning, kind_at, constant_kind, constant_at, declaration, declarations, declared_kind, behind_all}
 use Rattle.brisk_types.specs.Expressions.{wrong, tag_kind}
-use Rattle.brisk_types.specs.Failures.{NoneFails, when}
+use Rattle.brisk_types.specs.Failures.{NoneFails}
 use Rattle.brisk_types.specs.Statements.{clash, binder}
 use Rattle.brisk_types.proofs.Fresh.{Fresh, names_of, not_when, when_not, neither, both_false, not_true, is_placed, fresh_distinct, all_fresh}
 use Rattle.brisk_types.proofs.Indexes.{any_last, some_or}

@@ -1,16 +1,15 @@
 -- Indexes that grow with a list.
-use Rattle.std.proofs.Common.{◌≡◌, ℕ, ◌+◌, ◌<◌, Bool, true, false, cond, ◌||◌, ◌&&◌, not, List, [], ◌∷◌, ◌++◌, length, take, drop, get_or, map, Option, Some, None, refl, sym, ap, ◌∙◌}
+use Rattle.std.proofs.Common.{◌≡◌, ℕ, ◌+◌, ◌<◌, Bool, true, false, cond, ◌||◌, ◌&&◌, List, [], ◌∷◌, ◌++◌, length, take, drop, get_or, map, Option, Some, None, refl, sym, ap, ◌∙◌}
 use Rattle.std.specs.Prelude.{option_map}
 use Rattle.std.specs.List.{list_any}
 use Rattle.std.specs.Option.{is_some, option_or}
 use Rattle.std.proofs.lemmas.List.{take_more, drop_more, map-append}
 use Rattle.std.proofs.lemmas.List.Folds.{list_any-append}
-use Rattle.brisk_values.specs.declared.value.Kind.{Kind}
 use Rattle.brisk_values.specs.Names.{Name, same_name}
 use Rattle.brisk_syntax.specs.declared.program.Channel.{Channel}
 use Rattle.brisk_syntax.specs.Declarations.{kinds_on, channel_named}
 use Rattle.brisk_types.specs.Declarations.{place_of, apart, tags}
-use Rattle.brisk_types.specs.Failures.{Failures, note_all, when}
+use Rattle.brisk_types.specs.Failures.{note_all, when}
 use Rattle.brisk_types.specs.declared.fault.Failure.{Failure}
 use Rattle.brisk_types.specs.declared.fault.Rule.TheVariants.{Twice}
 use Rattle.brisk_types.specs.declared.places.Placed.{Placed}

@@ -2,14 +2,14 @@
 use Rattle.std.proofs.Common.{◌≡◌, ℕ, ◌+◌, Bool, true, false, ◌||◌, ◌&&◌, not, List, [], ◌∷◌, ◌++◌, length, Option, Some, None, refl, sym, ap, subst, ◌∙◌, arith}
 use Rattle.std.specs.Prelude.{if◌then◌else◌}
 use Rattle.std.specs.List.{list_any}
-use Rattle.std.specs.Option.{is_none, is_some, option_or}
+use Rattle.std.specs.Option.{is_none}
 use Rattle.brisk_values.specs.declared.operation.Op1.TheVariants.{Neg, Not}
 use Rattle.brisk_values.specs.declared.operation.Op2.TheVariants.{Add, Sub, Mul, Eq, Ne, Lt, Le, Gt, Ge, And, Or}
 use Rattle.brisk_values.specs.declared.value.Kind.{Kind}
 use Rattle.brisk_values.specs.declared.value.Kind.TheVariants as kind
 use Rattle.brisk_values.specs.Names.{Name, same_name}
 use Rattle.brisk_values.specs.Values.{same_kind}
-use Rattle.brisk_values.proofs.Changes.{name_laws, exact_name, both_true}
+use Rattle.brisk_values.proofs.Changes.{name_laws, exact_name}
 use Rattle.brisk_syntax.specs.declared.program.Decl.{Decl}
 use Rattle.brisk_syntax.specs.declared.program.EnumDecl.{EnumDecl}
 use Rattle.brisk_syntax.specs.declared.program.Program.{Program}
@@ -21,9 +21,9 @@ use Rattle.brisk_types.specs.declared.fault.Rule.{Rule}
 use Rattle.brisk_types.specs.declared.fault.Rule.TheVariants.{Unknown, Twice, NotASet, SelfPartner, WrongKind}
 use Rattle.brisk_types.specs.Declarations.{is_enum_of, meaning}
 use Rattle.brisk_types.specs.Expressions.{Meaning, differ, wrong, kind_of, size_rule, expression, wanted}
-use Rattle.brisk_types.specs.Failures.{NoneFails, when, broken}
+use Rattle.brisk_types.specs.Failures.{NoneFails, broken}
 use Rattle.brisk_types.specs.Statements.{values, variables}
-use Rattle.brisk_types.proofs.Fresh.{not_when, when_not, neither, not_true, Fresh}
+use Rattle.brisk_types.proofs.Fresh.{not_when, when_not, not_true, Fresh}
 
 -- ---- kinds
 

@@ -1,5 +1,5 @@
 -- Sequential programs: no rule fails exactly where they are well typed.
-use Rattle.std.proofs.Common.{◌≡◌, ℕ, ◌+◌, Bool, true, false, cond, ◌||◌, ◌&&◌, not, List, [], ◌∷◌, ◌++◌, length, map, Option, Some, None, nat_eq, refl, sym, ap, subst, ◌∙◌, arith, eq-eqb}
+use Rattle.std.proofs.Common.{◌≡◌, ℕ, ◌+◌, Bool, true, false, ◌||◌, ◌&&◌, not, List, [], ◌∷◌, ◌++◌, length, Option, Some, None, nat_eq, refl, sym, ap, subst, ◌∙◌, arith, eq-eqb}
 use Rattle.std.specs.Prelude.{if◌then◌else◌, option_map}
 use Rattle.std.specs.List.{AllByRecursion, list_any}
 use Rattle.std.specs.Option.{is_some}
@@ -23,7 +23,7 @@ use Rattle.brisk_types.specs.declared.fault.Rule.{Rule}
 use Rattle.brisk_types.specs.declared.fault.Rule.TheVariants.{Unknown, NotASet, WrongCount}
 use Rattle.brisk_types.specs.Declarations.{heading_tokens, roles_at, meaning}
 use Rattle.brisk_types.specs.Expressions.{Meaning, wanted}
-use Rattle.brisk_types.specs.Failures.{Failures, NoneFails, broken, when}
+use Rattle.brisk_types.specs.Failures.{Failures, NoneFails, broken}
 use Rattle.brisk_types.specs.Sequences.{Meanings, process_rule, turns_rule, focus_rule, at_process, passed, guard, stored, item, items, outlines, outline, behind_role, meanings, items_at, seq_failures}
 use Rattle.brisk_types.specs.Statements.{values, variables}
 use Rattle.brisk_types.proofs.Agreeing.{names_differ, differ_names, enums_typed, typed_enums}

@@ -1,8 +1,7 @@
 -- The tokens of a sequential program are as many as are counted.
-use Rattle.std.proofs.Common.{◌≡◌, ℕ, ◌+◌, List, [], ◌∷◌, ◌++◌, ◌<◌, ◌≤◌, ◌^◌, length, sum_by, refl, sym, ap, arith}
+use Rattle.std.proofs.Common.{◌≡◌, List, ◌<◌, ◌≤◌, ◌^◌, length, refl, sym, ap, arith}
 use Rattle.std.proofs.lemmas.List.{length-append, length-map}
 use Rattle.brisk_lex.specs.declared.token.Placed.{Placed}
-use Rattle.brisk_lex.specs.declared.token.Token.{Token}
 use Rattle.brisk_seq.specs.declared.tree.SeqProgram.{SeqProgram}
 use Rattle.brisk_seq.specs.Items.{Item, Pass, Fill, Take, If, While, For, ForAny, Pick, Repeat, Items, nothing, ◌⨟◌}
 use Rattle.brisk_seq.specs.Tokens as count

@@ -1,5 +1,5 @@
 -- The typing rules of declarations, roles and programs, each with the token at which it fails.
-use Rattle.std.specs.Prelude.{ℕ, cond, ◌+◌, Bool, true, false, ◌&&◌, ◌||◌, not, if◌then◌else◌, List, [], ◌∷◌, ◌++◌, sum_by, Option, None, Some}
+use Rattle.std.specs.Prelude.{ℕ, cond, ◌+◌, Bool, ◌&&◌, not, if◌then◌else◌, List, [], ◌∷◌, ◌++◌, sum_by, Option, None, Some}
 use Rattle.std.specs.List.{list_any}
 use Rattle.std.specs.Option.{is_some, option_or}
 use Rattle.brisk_values.specs.declared.value.Kind.{Kind}

@@ -1,5 +1,5 @@
 -- The typing rules of expressions, each with the token at which it fails.
-use Rattle.std.specs.Prelude.{ℕ, ◌+◌, Bool, true, false, not, if◌then◌else◌, List, Option, None, Some}
+use Rattle.std.specs.Prelude.{ℕ, ◌+◌, Bool, false, not, if◌then◌else◌, List, Option, None, Some}
 use Rattle.std.specs.Option.{is_none}
 use Rattle.brisk_values.specs.declared.operation.Op1.{Op1}
 use Rattle.brisk_values.specs.declared.operation.Op1.TheVariants.{Neg, Not}

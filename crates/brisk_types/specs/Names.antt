@@ -2,8 +2,6 @@
 use Rattle.std.specs.Prelude.{Bool, if◌then◌else◌, List, [], ◌∷◌, Option, None, Some, option_map}
 use Rattle.std.specs.Option.{is_some}
 use Rattle.brisk_values.specs.Names.{Name, same_name}
-use Rattle.brisk_types.specs.declared.index.Key.{Key}
-use Rattle.brisk_types.specs.declared.index.TagKey.{TagKey}
 use Rattle.brisk_types.specs.declared.names.Globals.{Globals}
 use Rattle.brisk_types.specs.declared.names.Names.{Names}
 use Rattle.brisk_types.specs.declared.names.Processes.{Processes}

@@ -145,9 +145,7 @@ impl Names<'_> {
                 self.block(binders, otherwise, next + 1, first)
             }
             Stmt::While(e, body) => { self.block(binders, body, guard(self, e, at, first), first) }
-            Stmt::For(each) => {
-                self.each(binders, each.binder, &each.set, &each.body, at + 1, first)
-            }
+            Stmt::For(all) => self.each(binders, all.binder, &all.set, &all.body, at + 1, first),
             Stmt::Repeat(turns) => {
                 first.note_some(self.set_rule(&turns.set), at + 1);
                 Ok(self.code(binders, &turns.body, at + 3, first)? + 1)

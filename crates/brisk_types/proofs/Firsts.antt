@@ -1,10 +1,10 @@
 -- What is noted of all failures is the first of them.
-use Rattle.std.proofs.Common.{◌≡◌, ℕ, ◌<◌, ◌≤◌, ◌⊎◌, inl, inr, Bool, true, false, ◌||◌, ◌&&◌, cond, nat_lt, nat_eq, Option, Some, None, Result, Ok, Err, refl, sym, ap, subst, ◌∙◌, arith}
+use Rattle.std.proofs.Common.{◌≡◌, ℕ, ◌<◌, ◌≤◌, ◌⊎◌, inl, inr, Bool, true, false, ◌||◌, ◌&&◌, cond, nat_lt, nat_eq, Option, Some, None, Result, refl, sym, subst, ◌∙◌, arith}
 use Rattle.brisk_types.specs.declared.fault.Failure.{Failure}
 use Rattle.brisk_types.specs.declared.fault.Rule.{Rule}
 use Rattle.brisk_types.specs.declared.fault.Rule.TheVariants.{Unknown, Twice, NotASet, NotSingle, SelfPartner, WrongCount, WrongKind}
 use Rattle.brisk_types.specs.declared.fault.TypeFault.{TypeFault}
-use Rattle.brisk_types.specs.Failures.{Failures, none, fails, ◌also◌, Fails, NoneFails, FailsFirst, IsChecked, rank, answer, is_before, noted, note_all}
+use Rattle.brisk_types.specs.Failures.{Failures, none, fails, ◌also◌, Fails, NoneFails, FailsFirst, IsChecked, rank, answer, is_before, note_all}
 
 abbrev Leq : Failure → Rule → ℕ → Type 0
 Leq f q j = (f.at < j) ⊎ ((f.at ≡ j) × (rank f.rule ≤ rank q))

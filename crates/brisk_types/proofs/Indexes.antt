@@ -1,16 +1,15 @@
 -- Indexes that grow with a list.
-use Rattle.std.proofs.Common.{◌≡◌, ℕ, ◌+◌, ◌<◌, Bool, true, false, cond, ◌||◌, ◌&&◌, not, List, [], ◌∷◌, ◌++◌, length, take, drop, get_or, map, Option, Some, None, refl, sym, ap, ◌∙◌}
+use Rattle.std.proofs.Common.{◌≡◌, ℕ, ◌+◌, ◌<◌, Bool, true, false, cond, ◌||◌, ◌&&◌, List, [], ◌∷◌, ◌++◌, length, take, drop, get_or, map, Option, Some, None, refl, sym, ap, ◌∙◌}
 use Rattle.std.specs.Prelude.{option_map}
 use Rattle.std.specs.List.{list_any}
 use Rattle.std.specs.Option.{is_some, option_or}
 use Rattle.std.proofs.lemmas.List.{take_more, drop_more, map-append}
 use Rattle.std.proofs.lemmas.List.Folds.{list_any-append}
-use Rattle.brisk_values.specs.declared.value.Kind.{Kind}
 use Rattle.brisk_values.specs.Names.{Name, same_name}
 use Rattle.brisk_syntax.specs.declared.program.Channel.{Channel}
 use Rattle.brisk_syntax.specs.Declarations.{kinds_on, channel_named}
 use Rattle.brisk_types.specs.Declarations.{place_of, apart, tags}
-use Rattle.brisk_types.specs.Failures.{Failures, note_all, when}
+use Rattle.brisk_types.specs.Failures.{note_all, when}
 use Rattle.brisk_types.specs.declared.fault.Failure.{Failure}
 use Rattle.brisk_types.specs.declared.fault.Rule.TheVariants.{Twice}
 use Rattle.brisk_types.specs.declared.places.Placed.{Placed}
@@ -28,7 +27,7 @@ or_false : (b : Bool) → (b || false) ≡ b
 or_false true = refl
 or_false false = refl
 
-any_last : {X : Type 0} (p : X → Bool) (xs : List X) (x : X) → list_any p (xs ++ x ∷ []) ≡ (list_any p xs || p x)
+pub any_last : {X : Type 0} (p : X → Bool) (xs : List X) (x : X) → list_any p (xs ++ x ∷ []) ≡ (list_any p xs || p x)
 any_last p xs x = list_any-append p xs (x ∷ []) ∙ ap (λ b. list_any p xs || b) (or_false (p x))
 
 -- what one more item makes of a test of any
@@ -41,7 +40,7 @@ any_image f p xs i x lt at = ap (λ ys. list_any p (map f ys)) (take_item xs i x
 
 -- ---- one more key of an index
 
-some_or : {V : Type 0} (f : Option V) (b : Bool) (v : V) → is_some (option_or f (cond b (Some v) None)) ≡ (is_some f || b)
+pub some_or : {V : Type 0} (f : Option V) (b : Bool) (v : V) → is_some (option_or f (cond b (Some v) None)) ≡ (is_some f || b)
 some_or (Some w) b v = refl
 some_or None true v = refl
 some_or None false v = refl

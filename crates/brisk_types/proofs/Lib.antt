@@ -1,5 +1,15 @@
 pub mod Lists
 pub mod Indexes
 pub mod Firsts
+pub mod Named
 pub mod Whole
+pub mod Fresh
+pub mod Kinded
+pub mod Declaring
+pub mod Coding
+pub mod Agreeing
+pub mod Sequencing
+pub mod Bounding
+pub mod Bounding_items
 pub mod Spelled
+pub mod Spelled_items

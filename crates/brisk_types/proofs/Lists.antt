@@ -1,8 +1,7 @@
 -- Numbers of tokens of lists.
 use Rattle.std.proofs.Common.{◌≡◌, ℕ, ◌+◌, ◌*◌, ◌-◌, ◌≤◌, List, [], ◌∷◌, length, arith, refl}
 use Rattle.brisk_syntax.specs.Syntax.{Expression}
-use Rattle.brisk_syntax.specs.Tokens.{separated, expression_tokens, list_tokens, name_tokens}
-use Rattle.brisk_values.specs.Names.{Name}
+use Rattle.brisk_syntax.specs.Tokens.{separated, expression_tokens, list_tokens}
 
 -- the tokens of expressions, with one after each
 abbrev pub spaced_tokens : List Expression → ℕ

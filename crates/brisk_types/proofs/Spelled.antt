@@ -34,7 +34,7 @@ separated_length : {A : Type 0} (s : A → List Token) (f : A → ℕ) → ((x :
 separated_length s f h [] = refl
 separated_length s f h (x ∷ xs) = behind s f h x xs
 
-all_length : {A : Type 0} (s : A → List Token) (f : A → ℕ) → ((x : A) → length (s x) ≡ f x) → (xs : List A) → length (spell.all_of s xs) ≡ sum_by f xs
+pub all_length : {A : Type 0} (s : A → List Token) (f : A → ℕ) → ((x : A) → length (s x) ≡ f x) → (xs : List A) → length (spell.all_of s xs) ≡ sum_by f xs
 all_length s f h [] = refl
 all_length s f h (x ∷ xs) = length-append (s x) (spell.all_of s xs) ∙ (λ i. h x i + all_length s f h xs i) ∙ sym (sum_by-cons f x xs)
 
@@ -42,7 +42,7 @@ truth_length : (b : Bool) → length (spell.truth b) ≡ 1
 truth_length true = refl
 truth_length false = refl
 
-expression_length : (e : Expression) → length (spell.expression e) ≡ count.expression_tokens e
+pub expression_length : (e : Expression) → length (spell.expression e) ≡ count.expression_tokens e
 expression_length (Num n) = refl
 expression_length (Truth b) = truth_length b
 expression_length (Var x) = refl
@@ -52,10 +52,10 @@ expression_length (Paren e) = omega (arith, length-append (spell.expression e) (
 expression_length (Un op e) = omega (arith, expression_length e)
 expression_length (Bin op e f) = simp length-append (omega (arith, expression_length e, expression_length f))
 
-names_length : (xs : List Name) → length (spell.names xs) ≡ count.name_tokens xs
+pub names_length : (xs : List Name) → length (spell.names xs) ≡ count.name_tokens xs
 names_length xs = separated_length spell.name (λ x. 1) (λ x. refl) xs
 
-exprs_length : (es : List Expression) → length (spell.expressions es) ≡ count.list_tokens es
+pub exprs_length : (es : List Expression) → length (spell.expressions es) ≡ count.list_tokens es
 exprs_length es = separated_length spell.expression count.expression_tokens expression_length es
 
 partner_length : (u : Who) → length (spell.partner u) ≡ 1
@@ -94,7 +94,7 @@ decl_length : (d : Decl) → length (spell.declaration d) ≡ count.decl_tokens 
 decl_length (decl.Var x k c) = simp length-append (omega (arith, kind_length k, constant_length c))
 decl_length (decl.Input x k) = simp length-append (omega (arith, kind_length k))
 
-enum_length : (e : EnumDecl) → length (spell.enumeration e) ≡ count.enum_tokens e
+pub enum_length : (e : EnumDecl) → length (spell.enumeration e) ≡ count.enum_tokens e
 enum_length e = omega (arith, length-append (spell.names e.tags) (spell.mark m.RBrace), names_length e.tags)
 
 flag_length : (k : Word) (b : Bool) → length (spell.flag k b) ≡ (if b then 1 else 0)
@@ -112,7 +112,7 @@ heading_length r = by r.many r.nonempty
     by true false = refl
     by false nonempty = refl
 
-role_length : (r : RoleText) → length (spell.role r) ≡ count.role_tokens r
+pub role_length : (r : RoleText) → length (spell.role r) ≡ count.role_tokens r
 role_length r = simp length-append (omega (arith, heading_length r, all_length spell.declaration count.decl_tokens decl_length r.decls, code_length r.code))
 
 -- the spelling has the tokens that are counted

@@ -1,5 +1,5 @@
 -- The typing rules of declarations, roles and programs, each with the token at which it fails.
-use Rattle.std.specs.Prelude.{ℕ, cond, ◌+◌, Bool, true, false, ◌&&◌, ◌||◌, not, if◌then◌else◌, List, [], ◌∷◌, ◌++◌, sum_by, Option, None, Some}
+use Rattle.std.specs.Prelude.{ℕ, cond, ◌+◌, Bool, ◌&&◌, not, if◌then◌else◌, List, [], ◌∷◌, ◌++◌, sum_by, Option, None, Some}
 use Rattle.std.specs.List.{list_any}
 use Rattle.std.specs.Option.{is_some, option_or}
 use Rattle.brisk_values.specs.declared.value.Kind.{Kind}
@@ -41,6 +41,10 @@ placed_channels i (c ∷ cs) = record { name = c.name; at = i + 1 } ∷ placed_c
 abbrev pub placed_roles : ℕ → List RoleText → List Placed
 placed_roles i [] = []
 placed_roles i (r ∷ rs) = record { name = r.name; at = i + 1 } ∷ placed_roles (i + role_tokens r) rs
+
+-- the program that declares these
+abbrev pub program_of : List EnumDecl → List Channel → List RoleText → Program
+program_of enums channels roles = record { enums = enums; channels = channels; roles = roles }
 
 -- the token of a program's first channel, and of its first role
 abbrev pub channels_at : Program → ℕ

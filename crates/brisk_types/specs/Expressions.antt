@@ -1,5 +1,5 @@
 -- The typing rules of expressions, each with the token at which it fails.
-use Rattle.std.specs.Prelude.{ℕ, ◌+◌, Bool, true, false, not, if◌then◌else◌, List, Option, None, Some}
+use Rattle.std.specs.Prelude.{ℕ, ◌+◌, Bool, false, not, if◌then◌else◌, List, Option, None, Some}
 use Rattle.std.specs.Option.{is_none}
 use Rattle.brisk_values.specs.declared.operation.Op1.{Op1}
 use Rattle.brisk_values.specs.declared.operation.Op1.TheVariants.{Neg, Not}
@@ -8,6 +8,7 @@ use Rattle.brisk_values.specs.declared.operation.Op2.TheVariants.{Add, Sub, Mul,
 use Rattle.brisk_values.specs.declared.value.Kind.{Kind}
 use Rattle.brisk_values.specs.declared.value.Kind.TheVariants as kind
 use Rattle.brisk_values.specs.Names.{Name, same_name}
+use Rattle.brisk_values.specs.Values.{same_kind}
 use Rattle.brisk_syntax.specs.Syntax.{Expression, Num, Truth, Var, Tag, Size, Paren, Un, Bin}
 use Rattle.brisk_syntax.specs.Tokens.{expression_tokens}
 use Rattle.brisk_types.specs.declared.fault.Rule.{Rule}
@@ -27,12 +28,6 @@ pub record Meaning : Type 0 where
   -- the name of the role itself
   pub own : Name
   pub kind_of_variable : Name → Option Kind
-
-abbrev pub same_kind : Kind → Kind → Bool
-same_kind kind.Int kind.Int = true
-same_kind kind.Bool kind.Bool = true
-same_kind (kind.Enum e) (kind.Enum f) = same_name e f
-same_kind j k = false
 
 -- a kind that is known differs from a kind that is wanted
 abbrev pub differ : Option Kind → Option Kind → Bool

@@ -4,4 +4,6 @@ pub mod Expressions
 pub mod Names
 pub mod Statements
 pub mod Declarations
+pub mod Sequences
+pub mod Agreement
 pub mod Laws

@@ -1,5 +1,5 @@
 -- The typing rules of statements, each with the token at which it fails.
-use Rattle.std.specs.Prelude.{ℕ, ◌+◌, max, Bool, true, false, ◌||◌, if◌then◌else◌, nat_eq, List, [], ◌∷◌, ◌++◌, length, Option, None, Some}
+use Rattle.std.specs.Prelude.{ℕ, ◌+◌, max, ◌||◌, if◌then◌else◌, nat_eq, List, [], ◌∷◌, ◌++◌, length, Option, None, Some}
 use Rattle.std.specs.Option.{is_none, is_some}
 use Rattle.brisk_values.specs.declared.value.Kind.{Kind}
 use Rattle.brisk_values.specs.declared.value.Kind.TheVariants as kind
@@ -11,7 +11,7 @@ use Rattle.brisk_syntax.specs.Tokens.{expression_tokens, list_tokens, name_token
 use Rattle.brisk_syntax.specs.Typing.{is_among}
 use Rattle.brisk_types.specs.declared.fault.Rule.{Rule}
 use Rattle.brisk_types.specs.declared.fault.Rule.TheVariants.{Unknown, Twice, NotASet, NotSingle, SelfPartner, WrongCount}
-use Rattle.brisk_types.specs.Expressions.{Meaning, kind_of, wrong, expression, wanted}
+use Rattle.brisk_types.specs.Expressions.{Meaning, wrong, wanted}
 use Rattle.brisk_types.specs.Failures.{Failures, none, fails, ◌also◌, when, broken}
 
 -- the name at the token i and that at the token of a global name, where there is one, clash at the later

@@ -20,8 +20,8 @@ pub fn expression_tokens(e: &Expr) -> u32
     }
 }
 
-#[tactic(auto, using(crate::proofs::Lists::names_is))]
 /// The tokens of names, with the commas between.
+#[tactic(auto, using(crate::proofs::Lists::names_is))]
 pub fn names_tokens(names: &Names) -> u32
     requires { spec.name_tokens names.now + 1 < 2 ^ 32 }
     ensures { result ≡ spec.name_tokens names.now }
@@ -29,8 +29,8 @@ pub fn names_tokens(names: &Names) -> u32
     (2 * names.items.len() as u32).saturating_sub(1)
 }
 
-#[tactic(auto, using(crate::proofs::Lists::spaced_is, crate::proofs::Lists::spaced_room))]
 /// The tokens of expressions, with the commas between.
+#[tactic(auto, using(crate::proofs::Lists::spaced_is, crate::proofs::Lists::spaced_room))]
 pub fn expressions_tokens(exprs: &Exprs) -> u32
     requires { spec.list_tokens exprs.now + 1 < 2 ^ 32 }
     ensures { result ≡ spec.list_tokens exprs.now }

@@ -10,7 +10,7 @@ use crate::expressions::tag;
 use crate::fault::{First, Rule};
 use crate::index::{Index, Key};
 use crate::names::{Globals, Names, differ};
-use crate::places::{channel_tokens, decl_tokens, enum_tokens, heading_tokens};
+use crate::places::{channel_tokens, decl_tokens, decls_tokens, enum_tokens, heading_tokens};
 use crate::statements::binder;
 use brisk_syntax::{Channels, Const, Decl, Enums, Kinds, Names as List, Role, Roles};
 use brisk_values::{Kind, Name, NoMemory};
@@ -60,8 +60,8 @@ fn kind_at(globals: &Globals<'_>, kind: &Kind, at: u32, first: &mut First)
     }
 }
 
-#[tactic(auto, using(crate::proofs::Lists::names_is))]
 // Kinds, of which the first is at the token.
+#[tactic(auto, using(crate::proofs::Lists::names_is))]
 fn kinds(globals: &Globals<'_>, kinds: &Kinds, at: u32, first: &mut First)
     requires { at + tokens.separated (λ k. 1) kinds.now + 1 < 2 ^ 32 }
     ensures { first.new.failure ≡ note_all first.old.failure (spec.kinds (known_enum globals.now) at kinds.now) }
@@ -118,6 +118,28 @@ fn declaration(names: &Names<'_>, decl: &Decl, at: u32, first: &mut First)
     }
 }
 
+/// Notes what is wrong with the declarations of a role that begins at the token. Answers what names mean behind them.
+pub fn declared<'a>(
+    alloc: Global,
+    globals: &'a Globals<'a>,
+    role: &Role,
+    at: u32,
+    first: &mut First,
+) -> Result<Names<'a>, NoMemory>
+    requires { at + tokens.role_tokens (text_of role.now) < 2 ^ 32 }
+    ensures names { IfOk result (λ names. meaning_of names ≡ spec.behind_all (global_meaning globals.now role.now.name) role.now.decls) }
+    ensures noted { OnOk result (first.new.failure ≡ note_all first.old.failure (spec.declarations (global_meaning globals.now role.now.name) (at + spec.heading_tokens (text_of role.now)) role.now.decls)) }
+{
+    let mut names = Names::new(alloc, globals, role.name);
+    let mut at = at + heading_tokens(role);
+    for decl in &role.decls.items {
+        declaration(&names, decl, at, first);
+        names.add(decl)?;
+        at += decl_tokens(decl);
+    }
+    Ok(names)
+}
+
 fn role(
     alloc: Global,
     globals: &Globals<'_>,
@@ -129,13 +151,8 @@ fn role(
     ensures next { IfOk result (λ next. next ≡ at + tokens.role_tokens (text_of role.now)) }
     ensures noted { OnOk result (first.new.failure ≡ note_all first.old.failure (spec.role (global_meaning globals.now role.now.name) at (text_of role.now))) }
 {
-    let mut names = Names::new(alloc, globals, role.name);
-    let mut at = at + heading_tokens(role);
-    for decl in &role.decls.items {
-        declaration(&names, decl, at, first);
-        names.add(decl)?;
-        at += decl_tokens(decl);
-    }
+    let names = declared(alloc, globals, role, at, first)?;
+    let at = at + heading_tokens(role) + decls_tokens(&role.decls);
     let mut binders = Vec::new(alloc);
     let end = names.code(&mut binders, &role.code, at, first)?;
     Ok(end + 1)

@@ -10,7 +10,7 @@ ghost use Rattle.brisk_types.specs.Names.{global_meaning};
 
 use crate::index::{Index, Key, TagKey};
 use crate::names::Globals;
-use brisk_syntax::{Channels, Enums, Kinds, Names, Program, Roles};
+use brisk_syntax::{Channels, Enums, Kinds, Names, Roles};
 use brisk_values::{Name, NoMemory};
 use std::alloc::Global;
 
@@ -84,24 +84,26 @@ fn single_index(alloc: Global, roles: &Roles) -> Result<Index<Key, ()>, NoMemory
     Ok(index)
 }
 
-/// The indexes of a program, with that of its places.
+/// The indexes of a program that declares these, with that of its places.
 pub fn globals<'a>(
     alloc: Global,
-    program: &'a Program,
+    enums: &Enums,
+    channels: &'a Channels,
+    roles: &Roles,
     places: Index<Key, u32>,
 ) -> Result<Globals<'a>, NoMemory>
-    requires { (n : Text) → found same_key places (key n) ≡ spec.place_of (spec.placed program.now) n }
-    ensures { IfOk result (λ globals. global_meaning globals ≡ spec.meaning program.now) }
+    requires { (n : Text) → found same_key places (key n) ≡ spec.place_of (spec.placed (spec.program_of enums.now channels.now roles.now)) n }
+    ensures { IfOk result (λ globals. global_meaning globals ≡ spec.meaning (spec.program_of enums.now channels.now roles.now)) }
 {
-    let enums = enum_index(alloc, &program.enums)?;
-    let tags = tag_index(alloc, &program.enums)?;
-    let channels = channel_index(alloc, &program.channels)?;
-    let sets = set_index(alloc, &program.roles)?;
-    let singles = single_index(alloc, &program.roles)?;
+    let known = enum_index(alloc, enums)?;
+    let tags = tag_index(alloc, enums)?;
+    let by_name = channel_index(alloc, channels)?;
+    let sets = set_index(alloc, roles)?;
+    let singles = single_index(alloc, roles)?;
     Ok(Globals {
-        enums,
+        enums: known,
         tags,
-        channels,
+        channels: by_name,
         sets,
         singles,
         places,

@@ -1,6 +1,7 @@
 //! Types programs: names, kinds and channels, with the token of the first failure.
 #![tactic(auto)]
 
+mod agreement;
 mod count;
 mod declarations;
 mod expressions;
@@ -11,9 +12,14 @@ mod laws;
 mod messages;
 mod names;
 mod places;
+mod processes;
 mod programs;
+mod sequences;
 mod statements;
+#[cfg(test)]
+mod tests;
 
+pub use agreement::{agreed, seq_agreed, seq_within, within};
 pub use fault::TypeFault;
-pub use laws::counted;
-pub use programs::check;
+pub use laws::{counted, seq_counted};
+pub use programs::{check, check_seq};

@@ -55,8 +55,8 @@ fn other_kinds(kinds: &[Kind]) -> &[Kind]
     }
 }
 
-#[tactic(auto, using(crate::proofs::Lists::spaced_room))]
 /// Notes what is wrong with the values of a message, of which the first is at the token.
+#[tactic(auto, using(crate::proofs::Lists::spaced_room))]
 pub fn values(names: &Names<'_>, exprs: &Exprs, kinds: &[Kind], at: u32, first: &mut First)
     requires { at + list_tokens exprs.now + 1 < 2 ^ 32 }
     ensures { first.new.failure ≡ note_all first.old.failure (spec.values (meaning_of names.now) at exprs.now kinds.now) }
@@ -69,8 +69,8 @@ pub fn values(names: &Names<'_>, exprs: &Exprs, kinds: &[Kind], at: u32, first: 
     }
 }
 
-#[tactic(auto, using(crate::proofs::Lists::names_is))]
 /// Notes what is wrong with the variables of a message, of which the first is at the token.
+#[tactic(auto, using(crate::proofs::Lists::names_is))]
 pub fn variables(names: &Names<'_>, vars: &[Name], kinds: &[Kind], at: u32, first: &mut First)
     requires { at + name_tokens vars.now + 1 < 2 ^ 32 }
     ensures { first.new.failure ≡ note_all first.old.failure (spec.variables (meaning_of names.now) [] at vars.now kinds.now) }

@@ -3,8 +3,9 @@ ghost use Rattle.std.specs.Prelude.{◌≡◌, option_map, OnOk};
 ghost use Rattle.brisk_syntax.specs.Expressions.{expression_of};
 ghost use Rattle.brisk_syntax.specs.Declarations as declared;
 ghost use Rattle.brisk_syntax.specs.Typing as typing;
+ghost use Rattle.brisk_values.specs.Values as values;
 ghost use Rattle.brisk_types.specs.Expressions as spec;
-ghost use Rattle.brisk_types.specs.Names.{global_meaning, known_enum, known_tag, meaning_of};
+ghost use Rattle.brisk_types.specs.Names.{global_meaning, known_enum, known_set, known_single, known_tag, meaning_of};
 ghost use Rattle.brisk_types.specs.Declarations as declarations;
 ghost use Rattle.brisk_types.specs.Statements as statements;
 
@@ -34,6 +35,14 @@ pub struct Names<'a> {
     pub variables: Index<Key, Kind>,
 }
 
+/// What names mean in the items of a sequential program.
+#[derive(Drop)]
+pub struct Processes<'a> {
+    pub globals: &'a Globals<'a>,
+    /// What names mean in the text of each role.
+    pub names: Index<Key, &'a Names<'a>>,
+}
+
 /// Whether the name is one of these.
 pub fn is_among(names: &[Name], name: &Name) -> bool
     ensures { result ≡ typing.is_among names.now name.now }
@@ -42,7 +51,7 @@ pub fn is_among(names: &[Name], name: &Name) -> bool
 }
 
 pub fn same_kind(a: &Kind, b: &Kind) -> bool
-    ensures { result ≡ spec.same_kind a.now b.now }
+    ensures { result ≡ values.same_kind a.now b.now }
 {
     match (a, b) {
         (Kind::Int, Kind::Int) | (Kind::Bool, Kind::Bool) => true,
@@ -134,6 +143,18 @@ impl Globals<'_> {
         };
         self.tags.get(&key).is_some()
     }
+
+    pub fn is_set(&self, name: Name) -> bool
+        ensures { result ≡ known_set self.now name }
+    {
+        self.sets.get(&Key { name }).is_some()
+    }
+
+    pub fn is_single(&self, name: Name) -> bool
+        ensures { result ≡ known_single self.now name }
+    {
+        self.singles.get(&Key { name }).is_some()
+    }
 }
 
 impl<'a> Names<'a> {
@@ -168,13 +189,13 @@ impl<'a> Names<'a> {
     fn is_set(&self, name: Name) -> bool
         ensures { result ≡ (meaning_of self.now).is_set name }
     {
-        self.globals.sets.get(&Key { name }).is_some()
+        self.globals.is_set(name)
     }
 
     fn is_single(&self, name: Name) -> bool
         ensures { result ≡ (meaning_of self.now).is_single name }
     {
-        self.globals.singles.get(&Key { name }).is_some()
+        self.globals.is_single(name)
     }
 
     pub fn place(&self, name: Name) -> Option<u32>

@@ -10,7 +10,7 @@ ghost use Rattle.brisk_types.specs.Indexes.{found, key, same_key};
 use crate::count::{code_tokens, names_tokens};
 use crate::fault::{First, Rule};
 use crate::index::{Index, Key};
-use brisk_syntax::{Channel, Const, Decl, Decls, EnumDecl, Program, Role};
+use brisk_syntax::{Channel, Channels, Const, Decl, Decls, EnumDecl, Enums, Role, Roles};
 use brisk_values::{Name, NoMemory};
 use std::alloc::Global;
 
@@ -74,35 +74,51 @@ pub fn heading_tokens(role: &Role) -> u32
     if role.many && role.nonempty { 4 } else { 3 }
 }
 
-fn role_tokens(role: &Role) -> u32
+pub fn role_tokens(role: &Role) -> u32
     requires { tokens.role_tokens (text_of role.now) < 2 ^ 32 }
     ensures { result ≡ tokens.role_tokens (text_of role.now) }
 {
     heading_tokens(role) + decls_tokens(&role.decls) + code_tokens(&role.code) + 1
 }
 
+pub fn roles_tokens(roles: &Roles) -> u32
+    requires { sum_by tokens.role_tokens roles.now < 2 ^ 32 }
+    ensures { result ≡ sum_by tokens.role_tokens roles.now }
+{
+    let mut tokens = 0;
+    for role in &roles.items {
+        tokens += role_tokens(role);
+    }
+    tokens
+}
+
 /// The names of a program that are known everywhere, in order.
-pub fn global_names(alloc: Global, program: &Program) -> Result<Vec<Placed>, NoMemory>
-    requires { tokens.program_tokens program.now < 2 ^ 32 }
-    ensures { IfOk result (λ v. v.items ≡ spec.placed program.now) }
+pub fn global_names(
+    alloc: Global,
+    enums: &Enums,
+    channels: &Channels,
+    roles: &Roles,
+) -> Result<Vec<Placed>, NoMemory>
+    requires { tokens.program_tokens (spec.program_of enums.now channels.now roles.now) < 2 ^ 32 }
+    ensures { IfOk result (λ v. v.items ≡ spec.placed (spec.program_of enums.now channels.now roles.now)) }
 {
     let mut names = Vec::new(alloc);
     let mut at = 0;
-    for e in &program.enums.items {
+    for e in &enums.items {
         names.push(Placed {
             name: e.name,
             at: at + 1,
         })?;
         at += enum_tokens(e);
     }
-    for channel in &program.channels.items {
+    for channel in &channels.items {
         names.push(Placed {
             name: channel.name,
             at: at + 1,
         })?;
         at += channel_tokens(channel);
     }
-    for role in &program.roles.items {
+    for role in &roles.items {
         names.push(Placed {
             name: role.name,
             at: at + 1,

@@ -1,9 +1,8 @@
 use Rattle.std.proofs.Common.{◌≡◌, ◌+◌, drop, sum_by}
 use Rattle.brisk_types.specs.Declarations as spec
 use Rattle.brisk_types.specs.Failures.{note_all}
-use Rattle.brisk_types.specs.Names.{global_meaning, known_enum, meaning_of}
+use Rattle.brisk_types.specs.Names.{known_enum}
 use Rattle.brisk_syntax.specs.Tokens as tokens
-use Rattle.brisk_syntax.specs.Texts.{text_of}
 use Rattle.brisk_types.proofs.declarations.channels.Given as goal
 
 abbrev pub invariant-loop-channel : goal.invariant-loop-channel

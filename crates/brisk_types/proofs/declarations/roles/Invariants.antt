@@ -1,7 +1,7 @@
 use Rattle.std.proofs.Common.{◌≡◌, ◌+◌, drop, map, sum_by}
 use Rattle.brisk_types.specs.Declarations as spec
 use Rattle.brisk_types.specs.Failures.{note_all}
-use Rattle.brisk_types.specs.Names.{global_meaning, known_enum, meaning_of}
+use Rattle.brisk_types.specs.Names.{global_meaning}
 use Rattle.brisk_syntax.specs.Tokens as tokens
 use Rattle.brisk_syntax.specs.Texts.{text_of}
 use Rattle.brisk_types.proofs.declarations.roles.Given as goal

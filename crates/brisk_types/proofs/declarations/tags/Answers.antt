@@ -1,7 +1,7 @@
-use Rattle.std.proofs.Common.{◌∙◌, ap, sym, refl, take, arith}
+use Rattle.std.proofs.Common.{◌∙◌, ap, sym, arith}
 use Rattle.std.specs.Option.{is_some}
 use Rattle.brisk_values.specs.Names.{same_name}
-use Rattle.brisk_types.specs.Indexes.{found, key, same_key, same_tag, tag_key}
+use Rattle.brisk_types.specs.Indexes.{found, key, same_key}
 use Rattle.brisk_types.proofs.Indexes.{found_more, any_item, tags_item}
 use Rattle.std.proofs.Common.{rules, ◌<◌, length}
 use Rattle.std.proofs.lemmas.Grind.{common_steps}

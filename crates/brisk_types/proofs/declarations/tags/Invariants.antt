@@ -1,12 +1,9 @@
 use Rattle.std.proofs.Common.{◌≡◌, ◌+◌, ◌*◌, ◌<◌, ◌^◌, [], take, drop, length}
 use Rattle.std.specs.Option.{is_some}
-use Rattle.brisk_values.specs.Names.{Name, same_name}
-use Rattle.brisk_types.specs.Indexes.{found, key, same_key, same_tag, tag_key}
+use Rattle.brisk_values.specs.Names.{Name}
+use Rattle.brisk_types.specs.Indexes.{found, key, same_key}
 use Rattle.brisk_types.specs.Declarations as spec
 use Rattle.brisk_types.specs.Failures.{note_all}
-use Rattle.brisk_types.specs.Names.{global_meaning, known_enum, meaning_of}
-use Rattle.brisk_syntax.specs.Tokens as tokens
-use Rattle.brisk_syntax.specs.Texts.{text_of}
 use Rattle.brisk_syntax.specs.Typing.{is_among}
 use Rattle.brisk_types.proofs.declarations.tags.Given as goal
 

@@ -1,7 +1,7 @@
 use Rattle.std.proofs.Common.{◌∙◌, ap, sym, ◌||◌, ◌&&◌, take, arith}
 use Rattle.std.specs.Option.{is_some}
 use Rattle.brisk_values.specs.Names.{same_name}
-use Rattle.brisk_types.specs.Indexes.{found, key, same_key, same_tag, tag_key}
+use Rattle.brisk_types.specs.Indexes.{found, same_tag, tag_key}
 use Rattle.brisk_syntax.specs.Typing.{is_among}
 use Rattle.brisk_types.proofs.Indexes.{found_more, any_item, one_tag}
 use Rattle.brisk_types.proofs.globals.add_tags.Goals as goal

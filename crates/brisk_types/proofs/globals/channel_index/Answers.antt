@@ -1,9 +1,8 @@
 use Rattle.std.proofs.Common.{◌∙◌, ap, sym, cond, Some, None, arith}
 use Rattle.std.specs.Prelude.{option_map}
 use Rattle.std.specs.Option.{option_or}
-use Rattle.std.specs.Option.{is_some}
 use Rattle.brisk_values.specs.Names.{same_name}
-use Rattle.brisk_types.specs.Indexes.{found, key, same_key, same_tag, tag_key}
+use Rattle.brisk_types.specs.Indexes.{found, key, same_key}
 use Rattle.brisk_types.proofs.Indexes.{seen_or, kinds_item}
 use Rattle.brisk_types.proofs.globals.channel_index.Goals as goal
 

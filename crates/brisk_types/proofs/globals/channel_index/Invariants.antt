@@ -1,8 +1,7 @@
 use Rattle.std.proofs.Common.{◌≡◌, take}
 use Rattle.std.specs.Prelude.{option_map}
-use Rattle.std.specs.Option.{is_some}
-use Rattle.brisk_values.specs.Names.{Name, same_name}
-use Rattle.brisk_types.specs.Indexes.{found, key, same_key, same_tag, tag_key}
+use Rattle.brisk_values.specs.Names.{Name}
+use Rattle.brisk_types.specs.Indexes.{found, key, same_key}
 use Rattle.brisk_syntax.specs.Declarations.{kinds_on}
 use Rattle.brisk_types.proofs.globals.channel_index.Given as goal
 

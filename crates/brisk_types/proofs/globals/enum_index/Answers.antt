@@ -1,7 +1,7 @@
 use Rattle.std.proofs.Common.{◌∙◌, ap, sym, arith}
 use Rattle.std.specs.Option.{is_some}
 use Rattle.brisk_values.specs.Names.{same_name}
-use Rattle.brisk_types.specs.Indexes.{found, key, same_key, same_tag, tag_key}
+use Rattle.brisk_types.specs.Indexes.{found, key, same_key}
 use Rattle.brisk_types.proofs.Indexes.{found_more, any_item}
 use Rattle.brisk_types.proofs.globals.enum_index.Goals as goal
 

@@ -1,7 +1,7 @@
 use Rattle.std.proofs.Common.{◌≡◌, take}
 use Rattle.std.specs.Option.{is_some}
-use Rattle.brisk_values.specs.Names.{Name, same_name}
-use Rattle.brisk_types.specs.Indexes.{found, key, same_key, same_tag, tag_key}
+use Rattle.brisk_values.specs.Names.{Name}
+use Rattle.brisk_types.specs.Indexes.{found, key, same_key}
 use Rattle.brisk_types.specs.Declarations.{is_enum_of}
 use Rattle.brisk_types.proofs.globals.enum_index.Given as goal
 

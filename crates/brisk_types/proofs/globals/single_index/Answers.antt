@@ -1,10 +1,8 @@
 use Rattle.std.proofs.Common.{◌∙◌, ap, sym, not, ◌&&◌, arith}
 use Rattle.std.specs.Option.{is_some}
 use Rattle.brisk_values.specs.Names.{same_name}
-use Rattle.brisk_types.specs.Indexes.{found, key, same_key, same_tag, tag_key}
-use Rattle.brisk_values.specs.Names.{Name}
+use Rattle.brisk_types.specs.Indexes.{found, key, same_key}
 use Rattle.brisk_syntax.specs.Texts.{text_of}
-use Rattle.brisk_syntax.specs.Typing.{is_single}
 use Rattle.brisk_types.proofs.Indexes.{found_more, any_image, of_kind, not_of_kind}
 use Rattle.brisk_types.proofs.globals.single_index.Goals as goal
 use Rattle.brisk_types.proofs.globals.single_index.Goals.{then-not-role+in_ok-add, else-not-role}

@@ -1,7 +1,7 @@
 use Rattle.std.proofs.Common.{◌≡◌, take}
 use Rattle.std.specs.Option.{is_some}
-use Rattle.brisk_values.specs.Names.{Name, same_name}
-use Rattle.brisk_types.specs.Indexes.{found, key, same_key, same_tag, tag_key}
+use Rattle.brisk_values.specs.Names.{Name}
+use Rattle.brisk_types.specs.Indexes.{found, same_tag, tag_key}
 use Rattle.brisk_syntax.specs.Declarations.{is_tag}
 use Rattle.brisk_types.proofs.globals.tag_index.Given as goal
 

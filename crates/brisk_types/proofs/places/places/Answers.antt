@@ -1,8 +1,8 @@
-use Rattle.std.proofs.Common.{◌∙◌, ap, sym, refl, take, arith, rules, ◌<◌, length, cond, Some, None}
+use Rattle.std.proofs.Common.{◌∙◌, ap, sym, arith, rules, ◌<◌, length, cond, Some, None}
 use Rattle.std.specs.Option.{option_or}
 use Rattle.std.specs.Option.{is_some}
 use Rattle.brisk_values.specs.Names.{same_name}
-use Rattle.brisk_types.specs.Indexes.{found, key, same_key, same_tag, tag_key}
+use Rattle.brisk_types.specs.Indexes.{key}
 use Rattle.brisk_types.proofs.Indexes.{place_item, apart_item}
 use Rattle.brisk_types.proofs.places.places.Goals as goal
 

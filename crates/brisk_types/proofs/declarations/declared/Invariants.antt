@@ -1,10 +1,10 @@
 use Rattle.std.proofs.Common.{◌≡◌, ◌+◌, drop, sum_by}
 use Rattle.brisk_types.specs.Declarations as spec
 use Rattle.brisk_types.specs.Failures.{note_all}
-use Rattle.brisk_types.specs.Names.{global_meaning, known_enum, meaning_of}
+use Rattle.brisk_types.specs.Names.{global_meaning, meaning_of}
 use Rattle.brisk_syntax.specs.Tokens as tokens
 use Rattle.brisk_syntax.specs.Texts.{text_of}
-use Rattle.brisk_types.proofs.declarations.role.Given as goal
+use Rattle.brisk_types.proofs.declarations.declared.Given as goal
 
 abbrev pub invariant-loop-decl : goal.invariant-loop-decl
 invariant-loop-decl l = record {

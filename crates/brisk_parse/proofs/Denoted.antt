@@ -1,36 +1,58 @@
 -- Where reading stops, the tokens denote no program.
 use Rattle.std.proofs.lemmas.List.{length-map}
-use Rattle.std.proofs.Common.{◌≡◌, List, length, Result, Ok, Err, sym, subst, ◌∙◌}
+use Rattle.std.proofs.Common.{◌≡◌, List, ◌++◌, length, Result, Ok, Err, sym, subst, ◌∙◌}
 use Rattle.brisk_lex.specs.declared.token.Placed.{Placed}
 use Rattle.brisk_syntax.specs.declared.program.Program.{Program}
+use Rattle.brisk_syntax.specs.Counts.{program_statements}
 use Rattle.brisk_parse.specs.declared.fault.Stop.{Stop}
 use Rattle.brisk_parse.specs.declared.fault.Stop.TheVariants.{Syntax, TooDeep, TooMany, NoMemory}
 use Rattle.brisk_parse.specs.Answers.{AnswersStop, fault_at, IsAnswer, IsSequence}
+use Rattle.brisk_parse.specs.Declarations as read
 use Rattle.brisk_parse.specs.Declarations.{program}
-use Rattle.brisk_parse.specs.Faults.{IsFault}
-use Rattle.brisk_parse.specs.Input.{tokens_of}
+use Rattle.brisk_parse.specs.Faults.{programs, sequences, IsFault}
+use Rattle.brisk_parse.specs.Input.{Input, tokens_of}
+use Rattle.brisk_parse.specs.Levelled.{LevelledProgram}
 use Rattle.brisk_seq.specs.declared.tree.SeqProgram.{SeqProgram}
-use Rattle.brisk_parse.specs.Limits.{source, sequence}
+use Rattle.brisk_parse.specs.Limits.{Limits, source, sequence}
+use Rattle.brisk_parse.specs.Sequences as read_sequence
 use Rattle.brisk_parse.specs.Sequences.{sequential}
-use Rattle.brisk_parse.specs.SequenceSpelling.{DenotesSequence}
-use Rattle.brisk_parse.specs.Within.{Denotes}
-use Rattle.brisk_parse.proofs.Faulty.{program_stops}
+use Rattle.brisk_parse.specs.SequenceSpelling.{sequence_spelling, LevelledSequence, count_items, SequenceWithin, DenotesSequence}
+use Rattle.brisk_parse.specs.Spelling.{spelling}
+use Rattle.brisk_parse.specs.Within.{Within, Denotes}
+use Rattle.brisk_parse.proofs.Enough.{program_enough}
+use Rattle.brisk_parse.proofs.EnoughItems.{sequence_enough}
+use Rattle.brisk_parse.proofs.Faulty.{stops_at}
+use Rattle.brisk_parse.proofs.FoundPrograms as programs_found
+use Rattle.brisk_parse.proofs.FoundSequences as sequences_found
+use Rattle.brisk_parse.proofs.OnlyPrograms as programs_only
 use Rattle.brisk_parse.proofs.OnlyPrograms.{program_only}
+use Rattle.brisk_parse.proofs.OnlySequences as sequences_only
 use Rattle.brisk_parse.proofs.OnlySequences.{sequential_only}
+use Rattle.brisk_parse.proofs.PredictPrograms as programs_predict
+use Rattle.brisk_parse.proofs.PredictSequences as sequences_predict
 
 same_ok : {A E : Type 0} (x y : A) → (let r : Result A E = Ok x in r ≡ Ok y) → x ≡ y
 same_ok x y h = cc
+
+not_both : {A E : Type 0} (r : Result A E) (x : A) (d : E) → r ≡ Ok x → r ≡ Err d → ⊥
+not_both r x d h g = cc
+
+-- ---- programs
 
 -- the tokens denote at most one program
 pub denotes_one : (tokens : List Placed) (P Q : Program) → Denotes tokens P → Denotes tokens Q → P ≡ Q
 denotes_one tokens P Q p q = same_ok P Q (sym (program_only tokens P p) ∙ program_only tokens Q q)
 
-not_both : {A E : Type 0} (r : Result A E) (x : A) (d : E) → r ≡ Ok x → r ≡ Err d → ⊥
-not_both r x d h g = cc
+program_found : (l : Limits) (i : Input) (P : Program) (j : Input) → read.whole l i ≡ Ok (P, j) → (i.rest ≡ spelling P ++ j.rest) × LevelledProgram P
+program_found l i P j h = let f = (programs_found.whole_found l i).holds P j h in (f.spelled, f.good.levelled)
+
+program_stops : (tokens : List Placed) (d : Stop) → program source tokens ≡ Err d → IsFault programs (tokens_of tokens) (fault_at (length (tokens_of tokens)) d)
+unfolding program
+program_stops tokens d h = stops_at Program spelling LevelledProgram Within program_statements read.whole program_enough (λ l P. programs_only.whole_only l P 0) program_found programs_predict.whole_rule source (tokens_of tokens) d h
 
 -- what is told where reading stops, which isn't for want of memory
-told : (tokens : List Placed) (d : Stop) → program source tokens ≡ Err d → IsFault (tokens_of tokens) (fault_at (length tokens) d) × ((P : Program) → Denotes tokens P → ⊥)
-told tokens d h = (subst (λ n. IsFault (tokens_of tokens) (fault_at n d)) (length-map tokens (λ (p : Placed). p.token)) (program_stops tokens d h), λ P p. not_both (program source tokens) P d (program_only tokens P p) h)
+told : (tokens : List Placed) (d : Stop) → program source tokens ≡ Err d → IsFault programs (tokens_of tokens) (fault_at (length tokens) d) × ((P : Program) → Denotes tokens P → ⊥)
+told tokens d h = (subst (λ n. IsFault programs (tokens_of tokens) (fault_at n d)) (length-map tokens (λ (p : Placed). p.token)) (program_stops tokens d h), λ P p. not_both (program source tokens) P d (program_only tokens P p) h)
 
 pub stopped : (tokens : List Placed) (d : Stop) → AnswersStop d (program source tokens) → IsAnswer tokens (Err (fault_at (length tokens) d))
 stopped tokens (Syntax k) h = told tokens (Syntax k) h
@@ -44,8 +66,18 @@ stopped tokens NoMemory h = tt
 pub denotes_one_sequence : (tokens : List Placed) (P Q : SeqProgram) → DenotesSequence tokens P → DenotesSequence tokens Q → P ≡ Q
 denotes_one_sequence tokens P Q p q = same_ok P Q (sym (sequential_only tokens P p) ∙ sequential_only tokens Q q)
 
+sequence_found : (l : Limits) (i : Input) (P : SeqProgram) (j : Input) → read_sequence.whole l i ≡ Ok (P, j) → (i.rest ≡ sequence_spelling P ++ j.rest) × LevelledSequence P
+sequence_found l i P j h = let f = (sequences_found.whole_found l i).holds P j h in (f.spelled, f.good.levelled)
+
+sequence_stops : (tokens : List Placed) (d : Stop) → sequential sequence tokens ≡ Err d → IsFault sequences (tokens_of tokens) (fault_at (length (tokens_of tokens)) d)
+unfolding sequential
+sequence_stops tokens d h = stops_at SeqProgram sequence_spelling LevelledSequence SequenceWithin (λ P. count_items P.body) read_sequence.whole sequence_enough (λ l P. sequences_only.whole_only l P 0) sequence_found sequences_predict.whole_rule sequence (tokens_of tokens) d h
+
+sequence_told : (tokens : List Placed) (d : Stop) → sequential sequence tokens ≡ Err d → IsFault sequences (tokens_of tokens) (fault_at (length tokens) d) × ((P : SeqProgram) → DenotesSequence tokens P → ⊥)
+sequence_told tokens d h = (subst (λ n. IsFault sequences (tokens_of tokens) (fault_at n d)) (length-map tokens (λ (p : Placed). p.token)) (sequence_stops tokens d h), λ P p. not_both (sequential sequence tokens) P d (sequential_only tokens P p) h)
+
 pub sequence_stopped : (tokens : List Placed) (d : Stop) → AnswersStop d (sequential sequence tokens) → IsSequence tokens (Err (fault_at (length tokens) d))
-sequence_stopped tokens (Syntax k) h = λ P p. not_both (sequential sequence tokens) P (Syntax k) (sequential_only tokens P p) h
-sequence_stopped tokens (TooDeep k) h = λ P p. not_both (sequential sequence tokens) P (TooDeep k) (sequential_only tokens P p) h
-sequence_stopped tokens (TooMany k) h = λ P p. not_both (sequential sequence tokens) P (TooMany k) (sequential_only tokens P p) h
+sequence_stopped tokens (Syntax k) h = sequence_told tokens (Syntax k) h
+sequence_stopped tokens (TooDeep k) h = sequence_told tokens (TooDeep k) h
+sequence_stopped tokens (TooMany k) h = sequence_told tokens (TooMany k) h
 sequence_stopped tokens NoMemory h = tt

@@ -1,6 +1,7 @@
 pub mod Codes
 pub mod Denoted
 pub mod Enough
+pub mod EnoughItems
 pub mod Faulty
 pub mod Found
 pub mod FoundExpressions
@@ -15,9 +16,11 @@ pub mod OnlyStatements
 pub mod OnlyTokens
 pub mod Outcomes
 pub mod PredictExpressions
+pub mod PredictItems
 pub mod PredictLists
 pub mod PredictStatements
 pub mod PredictPrograms
+pub mod PredictSequences
 pub mod Predictive
 pub mod Repetitions
 pub mod Tails

@@ -147,9 +147,9 @@ module _ (l : Limits) where
     item_only d (Pass q xs p es) k r a c ok n =
         rw (pass_parts (spell.names xs) (spell.expressions es) k q p, count_only (t.Name q ∷ bracketed (spell.names xs) (t.Mark m.Assign ∷ t.Name p ∷ bracketed (spell.expressions es) (t.Mark m.Semi ∷ k))) r a c n, variables_only xs (t.Mark m.Assign ∷ t.Name p ∷ bracketed (spell.expressions es) (t.Mark m.Semi ∷ k)) r c ok.within.0, values_only es (t.Mark m.Semi ∷ k) r c ok.within.1 (all_both Levelled _ es ok.levelled ok.within.2)) refl
     item_only d (Fill x p q es) k r a c ok n =
-        rw (fill_parts (spell.expressions es) k x p q, count_only (t.Word w.KwBox ∷ t.Num x ∷ t.Mark m.LParen ∷ t.Name p ∷ t.Word w.KwTo ∷ t.Name q ∷ t.Mark m.RParen ∷ t.Mark m.Assign ∷ t.Name p ∷ bracketed (spell.expressions es) (t.Mark m.Semi ∷ k)) r a c n, box_only x (t.Mark m.LParen ∷ t.Name p ∷ t.Word w.KwTo ∷ t.Name q ∷ t.Mark m.RParen ∷ t.Mark m.Assign ∷ t.Name p ∷ bracketed (spell.expressions es) (t.Mark m.Semi ∷ k)) r c ok.within.0, name_laws.refl p, values_only es (t.Mark m.Semi ∷ k) r c ok.within.1 (all_both Levelled _ es ok.levelled ok.within.2)) refl
+        rw (fill_parts (spell.expressions es) k x p q, count_only (t.Word w.KwBox ∷ t.Num x ∷ t.Mark m.LParen ∷ t.Name p ∷ t.Word w.KwTo ∷ t.Name q ∷ t.Mark m.RParen ∷ t.Mark m.Assign ∷ t.Name p ∷ bracketed (spell.expressions es) (t.Mark m.Semi ∷ k)) r a c n, box_only x (t.Mark m.LParen ∷ t.Name p ∷ t.Word w.KwTo ∷ t.Name q ∷ t.Mark m.RParen ∷ t.Mark m.Assign ∷ t.Name p ∷ bracketed (spell.expressions es) (t.Mark m.Semi ∷ k)) r c ok.levelled.0, name_laws.refl p, values_only es (t.Mark m.Semi ∷ k) r c ok.within.0 (all_both Levelled _ es ok.levelled.1 ok.within.1)) refl
     item_only d (Take q xs x p) k r a c ok n =
-        rw (take_parts (spell.names xs) k x q p, count_only (t.Name q ∷ bracketed (spell.names xs) (t.Mark m.Assign ∷ t.Word w.KwBox ∷ t.Num x ∷ t.Mark m.LParen ∷ t.Name p ∷ t.Word w.KwTo ∷ t.Name q ∷ t.Mark m.RParen ∷ t.Mark m.Semi ∷ k)) r a c n, variables_only xs (t.Mark m.Assign ∷ t.Word w.KwBox ∷ t.Num x ∷ t.Mark m.LParen ∷ t.Name p ∷ t.Word w.KwTo ∷ t.Name q ∷ t.Mark m.RParen ∷ t.Mark m.Semi ∷ k) r c ok.within.0, box_only x (t.Mark m.LParen ∷ t.Name p ∷ t.Word w.KwTo ∷ t.Name q ∷ t.Mark m.RParen ∷ t.Mark m.Semi ∷ k) r c ok.within.1, name_laws.refl q) refl
+        rw (take_parts (spell.names xs) k x q p, count_only (t.Name q ∷ bracketed (spell.names xs) (t.Mark m.Assign ∷ t.Word w.KwBox ∷ t.Num x ∷ t.Mark m.LParen ∷ t.Name p ∷ t.Word w.KwTo ∷ t.Name q ∷ t.Mark m.RParen ∷ t.Mark m.Semi ∷ k)) r a c n, variables_only xs (t.Mark m.Assign ∷ t.Word w.KwBox ∷ t.Num x ∷ t.Mark m.LParen ∷ t.Name p ∷ t.Word w.KwTo ∷ t.Name q ∷ t.Mark m.RParen ∷ t.Mark m.Semi ∷ k) r c ok.within, box_only x (t.Mark m.LParen ∷ t.Name p ∷ t.Word w.KwTo ∷ t.Name q ∷ t.Mark m.RParen ∷ t.Mark m.Semi ∷ k) r c ok.levelled, name_laws.refl q) refl
     item_only zero (If p e a b) k r x c ok n = absurd (omega (arith, ok.depth))
     item_only (suc d) (If p e a b) k r x c ok n =
         let one = block_from d a (λ k r x c g n. items_only d l.statements a k r x c (omega (arith, ok.count)) (omega (arith, ok.count)) ok.levelled.1 ok.within.1 (omega (arith, ok.depth)) g n) in
@@ -220,7 +220,7 @@ module _ (l : Limits) where
   all_fit [] levelled within = tt
   all_fit (r ∷ rs) levelled within = (record { levelled = levelled.0; decls = within.0 }, all_fit rs levelled.1 within.1)
 
-  whole_only : (P : SeqProgram) (s : ℕ) → LevelledSequence P → SequenceWithin l P → whole l (at (sequence_spelling P) s l.statements) ≡ Ok (P, at [] s (l.statements - count_items P.body))
+  pub whole_only : (P : SeqProgram) (s : ℕ) → LevelledSequence P → SequenceWithin l P → whole l (at (sequence_spelling P) s l.statements) ≡ Ok (P, at [] s (l.statements - count_items P.body))
   unfolding whole expect
   whole_only P s levelled within =
       let es = spell.all_of spell.enumeration P.enums in

@@ -59,17 +59,17 @@ pub only : (u : Token) (f : Follow) (v : Bool) → f (Some u) ≡ v → (o : Opt
 only u f v e o h = ap f (seen u o h) ∙ e
 
 module _ (l : Limits) where
-  abbrev whole_expression : Family Expression
+  abbrev pub whole_expression : Family Expression
   whole_expression = wholes l.tokens
 
-  expression_rule : Rule any whole_expression ends
+  pub expression_rule : Rule any whole_expression ends
   expression_rule = item_rule begins_expression whole_expression ends (expression_item l.tokens) any (t.Num 0) refl refl
 
-  names_rule : Rule any (λ m. names (slack l m)) (is_token right_paren)
+  pub names_rule : Rule any (λ m. names (slack l m)) (is_token right_paren)
   names_rule =
       listed_rule begins_name (λ m. name) any name_item (is_token right_paren) (only right_paren (is_token comma) false refl) (to_any (is_token right_paren)) refl refl any l.places (only right_paren begins_name false refl) (to_any (is_token right_paren))
 
-  expressions_rule : Rule any (λ m. expressions (slack l m)) (is_token right_paren)
+  pub expressions_rule : Rule any (λ m. expressions (slack l m)) (is_token right_paren)
   expressions_rule =
       listed_rule begins_expression whole_expression ends (expression_item l.tokens) (is_token right_paren) (only right_paren (is_token comma) false refl) (only right_paren ends true refl) refl refl any l.places (only right_paren begins_expression false refl) (to_any (is_token right_paren))
 

@@ -14,6 +14,8 @@ use Rattle.brisk_parse.specs.Input.{Input, tokens_of}
 use Rattle.brisk_parse.specs.Levelled.{LevelledProgram}
 use Rattle.brisk_seq.specs.declared.tree.SeqProgram.{SeqProgram}
 use Rattle.brisk_parse.specs.Limits.{Limits, source, sequence}
+use Rattle.brisk_parse.specs.Passing as passing
+use Rattle.brisk_parse.specs.SequencePassing as sequence_passing
 use Rattle.brisk_parse.specs.Sequences as read_sequence
 use Rattle.brisk_parse.specs.Sequences.{sequential}
 use Rattle.brisk_parse.specs.SequenceSpelling.{sequence_spelling, LevelledSequence, count_items, SequenceWithin, DenotesSequence}
@@ -24,6 +26,8 @@ use Rattle.brisk_parse.proofs.EnoughItems.{sequence_enough}
 use Rattle.brisk_parse.proofs.Faulty.{stops_at}
 use Rattle.brisk_parse.proofs.FoundPrograms as programs_found
 use Rattle.brisk_parse.proofs.FoundSequences as sequences_found
+use Rattle.brisk_parse.proofs.JudgedPrograms as programs_judged
+use Rattle.brisk_parse.proofs.JudgedSequences as sequences_judged
 use Rattle.brisk_parse.proofs.OnlyPrograms as programs_only
 use Rattle.brisk_parse.proofs.OnlyPrograms.{program_only}
 use Rattle.brisk_parse.proofs.OnlySequences as sequences_only
@@ -48,7 +52,7 @@ program_found l i P j h = let f = (programs_found.whole_found l i).holds P j h i
 
 program_stops : (tokens : List Placed) (d : Stop) → program source tokens ≡ Err d → IsFault programs (tokens_of tokens) (fault_at (length (tokens_of tokens)) d)
 unfolding program
-program_stops tokens d h = stops_at Program spelling LevelledProgram Within program_statements read.whole program_enough (λ l P. programs_only.whole_only l P 0) program_found programs_predict.whole_rule source (tokens_of tokens) d h
+program_stops tokens d h = stops_at Program spelling LevelledProgram Within program_statements read.whole program_enough (λ l P. programs_only.whole_only l P 0) program_found programs_predict.whole_rule passing.program (λ l P. programs_judged.whole_judged l P 0) source (tokens_of tokens) d h
 
 -- what is told where reading stops, which isn't for want of memory
 told : (tokens : List Placed) (d : Stop) → program source tokens ≡ Err d → IsFault programs (tokens_of tokens) (fault_at (length tokens) d) × ((P : Program) → Denotes tokens P → ⊥)
@@ -71,7 +75,7 @@ sequence_found l i P j h = let f = (sequences_found.whole_found l i).holds P j h
 
 sequence_stops : (tokens : List Placed) (d : Stop) → sequential sequence tokens ≡ Err d → IsFault sequences (tokens_of tokens) (fault_at (length (tokens_of tokens)) d)
 unfolding sequential
-sequence_stops tokens d h = stops_at SeqProgram sequence_spelling LevelledSequence SequenceWithin (λ P. count_items P.body) read_sequence.whole sequence_enough (λ l P. sequences_only.whole_only l P 0) sequence_found sequences_predict.whole_rule sequence (tokens_of tokens) d h
+sequence_stops tokens d h = stops_at SeqProgram sequence_spelling LevelledSequence SequenceWithin (λ P. count_items P.body) read_sequence.whole sequence_enough (λ l P. sequences_only.whole_only l P 0) sequence_found sequences_predict.whole_rule sequence_passing.sequence (λ l P. sequences_judged.whole_judged l P 0) sequence (tokens_of tokens) d h
 
 sequence_told : (tokens : List Placed) (d : Stop) → sequential sequence tokens ≡ Err d → IsFault sequences (tokens_of tokens) (fault_at (length tokens) d) × ((P : SeqProgram) → DenotesSequence tokens P → ⊥)
 sequence_told tokens d h = (subst (λ n. IsFault sequences (tokens_of tokens) (fault_at n d)) (length-map tokens (λ (p : Placed). p.token)) (sequence_stops tokens d h), λ P p. not_both (sequential sequence tokens) P d (sequential_only tokens P p) h)

@@ -1,15 +1,18 @@
 -- Where reading stops is the first token at fault, whatever the language is that is read.
-use Rattle.std.proofs.Common.{◌≡◌, inl, inr, ℕ, zero, suc, ◌-◌, ◌≤◌, List, [], ◌∷◌, ◌++◌, length, Ok, Err, refl, sym, ap, ◌∙◌, append_assoc, append-nil, length-append, arith}
+use Rattle.std.proofs.Common.{◌≡◌, ◌⊎◌, inl, inr, ℕ, zero, suc, ◌-◌, ◌<◌, ◌≤◌, List, [], ◌∷◌, ◌++◌, length, Ok, Err, refl, sym, ap, subst, ◌∙◌, append_assoc, append-nil, length-append, arith}
+use Rattle.std.proofs.lemmas.Bool.{cases_lt}
 use Rattle.brisk_lex.specs.declared.token.Token.{Token}
 use Rattle.brisk_parse.specs.declared.fault.Stop.{Stop}
 use Rattle.brisk_parse.specs.declared.fault.Stop.TheVariants.{Syntax, TooDeep, TooMany, NoMemory}
 use Rattle.brisk_parse.specs.Answers.{fault_at}
 use Rattle.brisk_parse.specs.Declarations.{at_end, ended}
-use Rattle.brisk_parse.specs.Faults.{Language, Begins, IsStuck, IsPassed, IsFault}
+use Rattle.brisk_parse.specs.Faults.{Language, Begins, IsStuck, PassesLater, IsPassed, IsFault}
 use Rattle.brisk_parse.specs.Input.{Input, at, first}
 use Rattle.brisk_parse.specs.Limits.{Limits}
 use Rattle.brisk_parse.specs.Outcomes.{Outcome, Parser}
+use Rattle.brisk_parse.specs.Passing.{Passing, Nowhere, DeepAt, ManyAt}
 use Rattle.brisk_parse.proofs.Enough.{AtLeast, Enough}
+use Rattle.brisk_parse.proofs.Judged.{judged}
 use Rattle.brisk_parse.proofs.Predictive.{any, plus, Family, Completes, Took, Passed, Rule, Shape, plus_more, plus-zero}
 use Rattle.brisk_parse.proofs.PredictStatements.{slack}
 use Rattle.brisk_parse.proofs.PredictPrograms.{at_last}
@@ -58,15 +61,40 @@ slack-zero l = λ i. record {
 place_of : (front rest tokens : List Token) (left : ℕ) → tokens ≡ front ++ rest → left ≡ length rest → length front ≡ length tokens - left
 place_of front rest tokens left e f = omega (arith, ap length e, length-append front rest, f)
 
+-- what a stop tells of where a limit is passed
+judged_deep : {A : Type 0} (p : Passing) (i : List Token) (x : A × Input) (n : ℕ) → judged p i (Ok x) ≡ Err (TooDeep n) → 1 ≤ n → p ≡ DeepAt (length i - n)
+judged_deep Nowhere i x n h le = absurd cc
+judged_deep (DeepAt k) i x n h le = let e : length i - k ≡ n = cc in ap (λ k. DeepAt k) (omega (arith, e, le))
+judged_deep (ManyAt k) i x n h le = absurd cc
+
+judged_many : {A : Type 0} (p : Passing) (i : List Token) (x : A × Input) (n : ℕ) → judged p i (Ok x) ≡ Err (TooMany n) → 1 ≤ n → p ≡ ManyAt (length i - n)
+judged_many Nowhere i x n h le = absurd cc
+judged_many (DeepAt k) i x n h le = absurd cc
+judged_many (ManyAt k) i x n h le = let e : length i - k ≡ n = cc in ap (λ k. ManyAt k) (omega (arith, e, le))
+
+same_tail : (x y : Token) (k l : List Token) → x ∷ k ≡ y ∷ l → (x ≡ y) × (k ≡ l)
+same_tail x y k l h = (cc, cc)
+
+-- of two beginnings of one list the shorter begins the longer
+longer : (front more before rest : List Token) (t : Token) → front ++ more ≡ before ++ (t ∷ rest) → length before < length front → (z : List Token) × (front ≡ before ++ (t ∷ z))
+longer [] more before rest t e lt = absurd (omega (arith, lt))
+longer (x ∷ front) more [] rest t e lt = (front, ap (λ u. u ∷ front) (same_tail x t (front ++ more) rest e).0)
+longer (x ∷ front) more (y ∷ before) rest t e lt =
+    let same = same_tail x y (front ++ more) (before ++ (t ∷ rest)) e in
+    let found = longer front more before rest t same.1 (omega (arith, lt)) in
+    (found.0, λ i. same.0 i ∷ found.1 i)
+
 -- trees that are read just as they are spelled, where they are levelled and within the limits
 module _ (Tree : Type 0) (spelling : Tree → List Token) (Levelled : Tree → Type 0) (Within : Limits → Tree → Type 0) (used : Tree → ℕ) (whole : Limits → Parser Tree)
     (enough : (P : Tree) → Enough (λ l. Within l P))
     (only : (l : Limits) (P : Tree) → Levelled P → Within l P → whole l (at (spelling P) 0 l.statements) ≡ Ok (P, at [] 0 (l.statements - used P)))
     (found : (l : Limits) (i : Input) (P : Tree) (j : Input) → whole l i ≡ Ok (P, j) → (i.rest ≡ spelling P ++ j.rest) × Levelled P)
     (rule : (l : Limits) → Rule any (λ m. whole (slack l m)) at_last)
+    (passing : Limits → Tree → Passing)
+    (whole_judged : (l : Limits) (P : Tree) → Levelled P → whole l (at (spelling P) 0 l.statements) ≡ judged (passing l P) (spelling P) (Ok (P, at [] 0 (l.statements - used P))))
     (l : Limits) where
   abbrev trees : Language
-  trees = record { Tree = Tree; spelling = spelling; Levelled = Levelled; Within = Within l }
+  trees = record { Tree = Tree; spelling = spelling; Levelled = Levelled; passing = passing l }
 
   abbrev top : Family Tree
   top m = whole (slack l m)
@@ -120,12 +148,49 @@ module _ (Tree : Type 0) (spelling : Tree → List Token) (Levelled : Tree → T
   took_begins : (i : Input) (x : Tree) (j : Input) (s : Took any top at_last i x j) → Begins trees s.text
   took_begins i x j s = begins 0 i.room i.statements s.text [] x (at [] j.room j.statements) (s.again 0 i.room j.room i.statements j.statements [] s.rooms s.counts (omega arith) (omega arith) (inr refl)) refl
 
-  passed_out : (kind : ℕ → Stop) (i : Input) (left : ℕ) (s : Passed any top at_last kind i left) → i.room ≡ 0 → i.statements ≡ l.statements → (b : Begins trees (s.before ++ s.token ∷ [])) → Within l b.tree → ⊥
-  passed_out kind i left s e f b within =
-      let read = only l b.tree b.levelled within in
-      let bad = s.again (s.token ∷ b.more) refl in
-      let same : top 0 (at (s.before ++ (s.token ∷ b.more)) i.room i.statements) ≡ whole l (at (spelling b.tree) 0 l.statements) = λ d. whole (slack-zero l d) (at (sym (b.spelled ∙ append_assoc s.before (s.token ∷ []) b.more) d) (e d) (f d)) in
-      ok_err (top 0 (at (s.before ++ (s.token ∷ b.more)) i.room i.statements)) (b.tree, at [] 0 (l.statements - used b.tree)) (kind (length (s.token ∷ b.more))) (same ∙ read) bad
+  -- ---- limits
+
+  abbrev begin : List Token → Input
+  begin tokens = at tokens 0 l.statements
+
+  -- a tree is judged by its spelling, and so is what begins it
+  judged_at : (P : Tree) (tokens : List Token) → Levelled P → spelling P ≡ tokens → top 0 (begin tokens) ≡ judged (passing l P) tokens (Ok (P, at [] 0 (l.statements - used P)))
+  judged_at P tokens levelled e =
+      ap (λ l. whole l (begin tokens)) (slack-zero l) ∙ subst (λ z. whole l (begin z) ≡ judged (passing l P) z (Ok (P, at [] 0 (l.statements - used P)))) e (whole_judged l P levelled)
+
+  -- where a limit is passed, each tree that begins so passes it
+  passed_at : (kind : ℕ → Stop) (limit : ℕ → Passing) → ((p : Passing) (i : List Token) (x : Tree × Input) (n : ℕ) → judged p i (Ok x) ≡ Err (kind n) → 1 ≤ n → p ≡ limit (length i - n))
+      → (tokens : List Token) (left : ℕ) (s : Passed any top at_last kind (begin tokens) left) (b : Begins trees (s.before ++ s.token ∷ [])) → passing l b.tree ≡ limit (length s.before)
+  passed_at kind limit tells tokens left s b =
+      let text = s.before ++ (s.token ∷ b.more) in
+      let spelled = b.spelled ∙ append_assoc s.before (s.token ∷ []) b.more in
+      let same = sym (judged_at b.tree text b.levelled spelled) ∙ s.again (s.token ∷ b.more) refl in
+      let place : length text - length (s.token ∷ b.more) ≡ length s.before = omega (arith, length-append s.before (s.token ∷ b.more)) in
+      tells (passing l b.tree) text (b.tree, at [] 0 (l.statements - used b.tree)) (length (s.token ∷ b.more)) same (omega arith) ∙ ap limit place
+
+  -- reading doesn't stop at a limit within these tokens, whatever comes after them
+  passes_before : (kind : ℕ → Stop) (front rest more : List Token) (left : ℕ) (s : Passed any top at_last kind (begin (front ++ more)) left) → length more < left → (n : ℕ) × (top 0 (begin (front ++ rest)) ≡ Err (kind n))
+  passes_before kind front rest more left s lt =
+      let shorter : length s.before < length front = omega (arith, lt, s.place, ap length s.parts, length-append front more, length-append s.before (s.token ∷ s.rest)) in
+      let found = longer front more s.before s.rest s.token s.parts shorter in
+      let text : front ++ rest ≡ s.before ++ (s.token ∷ (found.0 ++ rest)) = ap (λ z. z ++ rest) found.1 ∙ append_assoc s.before (s.token ∷ found.0) rest in
+      (length (s.token ∷ (found.0 ++ rest)), ap (λ z. top 0 (begin z)) text ∙ s.again (s.token ∷ (found.0 ++ rest)) refl)
+
+  -- where reading stops at no limit, no tree that begins so passes one before
+  module _ (front rest : List Token) (no_deep : (n : ℕ) → top 0 (begin (front ++ rest)) ≡ Err (TooDeep n) → ⊥) (no_many : (n : ℕ) → top 0 (begin (front ++ rest)) ≡ Err (TooMany n) → ⊥) where
+    not_before : (kind : ℕ → Stop) → ((n : ℕ) → top 0 (begin (front ++ rest)) ≡ Err (kind n) → ⊥) → (more : List Token) (n : ℕ) → Passed any top at_last kind (begin (front ++ more)) (length (front ++ more) - n) → (n < length front) ⊎ (length front ≤ n) → length front ≤ n
+    not_before kind never more n s (inl lt) =
+        let bad = passes_before kind front rest more (length (front ++ more) - n) s (omega (arith, lt, length-append front more)) in
+        absurd (never bad.0 bad.1)
+    not_before kind never more n s (inr ge) = ge
+
+    clear_by : (p : Passing) (more : List Token) (x : Tree × Input) → top 0 (begin (front ++ more)) ≡ judged p (front ++ more) (Ok x) → PassesLater (length front) p
+    clear_by Nowhere more x h = tt
+    clear_by (DeepAt n) more x h = not_before (λ n. TooDeep n) no_deep more n (subst (Shape any top at_last (begin (front ++ more))) h ((rule l).predicts (begin (front ++ more)))) (cases_lt n (length front))
+    clear_by (ManyAt n) more x h = not_before (λ n. TooMany n) no_many more n (subst (Shape any top at_last (begin (front ++ more))) h ((rule l).predicts (begin (front ++ more)))) (cases_lt n (length front))
+
+    clear_before : (b : Begins trees front) → PassesLater (length front) (passing l b.tree)
+    clear_before b = clear_by (passing l b.tree) b.more (b.tree, at [] 0 (l.statements - used b.tree)) (judged_at b.tree (front ++ b.more) b.levelled b.spelled)
 
   -- ---- the answer
 
@@ -133,49 +198,70 @@ module _ (Tree : Type 0) (spelling : Tree → List Token) (Levelled : Tree → T
   abbrev IsStop : List Token → Stop → Type 0
   IsStop tokens d = IsFault trees tokens (fault_at (length tokens) d)
 
-  abbrev begin : List Token → Input
-  begin tokens = at tokens 0 l.statements
+  passes : (kind : ℕ → Stop) (limit : ℕ → Passing) → ((p : Passing) (i : List Token) (x : Tree × Input) (n : ℕ) → judged p i (Ok x) ≡ Err (kind n) → 1 ≤ n → p ≡ limit (length i - n))
+      → (tokens : List Token) (left : ℕ) → Passed any top at_last kind (begin tokens) left → IsPassed trees tokens (length tokens - left) (limit (length tokens - left))
+  passes kind limit tells tokens left s =
+      let place = place_of s.before (s.token ∷ s.rest) tokens left s.parts s.place in
+      record {
+        front = s.before;
+        token = s.token;
+        rest = s.rest;
+        parts = s.parts;
+        place = place;
+        begins = completes (begin tokens) (s.before ++ s.token ∷ []) _ s.viable;
+        passed = λ b. passed_at kind limit tells tokens left s b ∙ ap limit place;
+      }
 
-  passes : (kind : ℕ → Stop) (tokens : List Token) (left : ℕ) → Passed any top at_last kind (begin tokens) left → IsPassed trees tokens (length tokens - left)
-  passes kind tokens left s = record {
-    front = s.before;
-    token = s.token;
-    rest = s.rest;
-    parts = s.parts;
-    place = place_of s.before (s.token ∷ s.rest) tokens left s.parts s.place;
-    begins = completes (begin tokens) (s.before ++ s.token ∷ []) _ s.viable;
-    passed = passed_out kind (begin tokens) left s refl refl;
-  }
+  ok_stops : (o : Outcome Tree) (x : Tree × Input) (d : Stop) → o ≡ Ok x → o ≡ Err d → ⊥
+  ok_stops o x d h g = cc
+
+  syntax_deep : (o : Outcome Tree) (k n : ℕ) → o ≡ Err (Syntax k) → o ≡ Err (TooDeep n) → ⊥
+  syntax_deep o k n h g = cc
+
+  syntax_many : (o : Outcome Tree) (k n : ℕ) → o ≡ Err (Syntax k) → o ≡ Err (TooMany n) → ⊥
+  syntax_many o k n h g = cc
+
+  abbrev Clear : List Token → ℕ → Type 0
+  Clear front k = (b : Begins trees front) → PassesLater k (passing l b.tree)
+
+  at_place : (front : List Token) (k : ℕ) → length front ≡ k → Clear front (length front) → Clear front k
+  at_place front k e h = subst (Clear front) e h
 
   -- what is left is at fault
-  ended_fault : (tokens rest : List Token) (x : Tree) (room statements : ℕ) (d : Stop) → Took any top at_last (begin tokens) x (at rest room statements) → at_end x rest ≡ Err d → IsStop tokens d
-  ended_fault tokens [] x room statements d s h = absurd cc
-  ended_fault tokens (t ∷ rest) x room statements d s h =
+  ended_fault : (tokens rest : List Token) (x : Tree) (room statements : ℕ) (d : Stop) → top 0 (begin tokens) ≡ Ok (x, at rest room statements) → Took any top at_last (begin tokens) x (at rest room statements) → at_end x rest ≡ Err d → IsStop tokens d
+  ended_fault tokens [] x room statements d is s h = absurd cc
+  ended_fault tokens (t ∷ rest) x room statements d is s h =
       let same : d ≡ Syntax (length (t ∷ rest)) = cc in
+      let place = place_of s.text (t ∷ rest) tokens (length (t ∷ rest)) s.parts refl in
+      let read : top 0 (begin (s.text ++ (t ∷ rest))) ≡ Ok (x, at (t ∷ rest) room statements) = ap (λ z. top 0 (begin z)) (sym s.parts) ∙ is in
       rw same (record {
         front = s.text;
         rest = t ∷ rest;
         parts = s.parts;
-        place = place_of s.text (t ∷ rest) tokens (length (t ∷ rest)) s.parts refl;
+        place = place;
         begins = took_begins (begin tokens) x (at (t ∷ rest) room statements) s;
         stuck = took_stuck (begin tokens) x t rest room statements s refl (omega arith);
+        clear = at_place s.text (length tokens - length (t ∷ rest)) place (clear_before s.text (t ∷ rest) (λ n g. ok_stops _ _ _ read g) (λ n g. ok_stops _ _ _ read g));
       })
 
-  stops : (tokens : List Token) (o : Outcome Tree) (d : Stop) → Shape any top at_last (begin tokens) o → ended o ≡ Err d → IsStop tokens d
-  stops tokens (Ok x) d s h = ended_fault tokens x.1.rest x.0 x.1.room x.1.statements d s h
-  stops tokens (Err (Syntax left)) d s h =
+  stops : (tokens : List Token) (o : Outcome Tree) (d : Stop) → top 0 (begin tokens) ≡ o → Shape any top at_last (begin tokens) o → ended o ≡ Err d → IsStop tokens d
+  stops tokens (Ok x) d is s h = ended_fault tokens x.1.rest x.0 x.1.room x.1.statements d is s h
+  stops tokens (Err (Syntax left)) d is s h =
       let same : d ≡ Syntax left = cc in
+      let place = place_of s.before s.rest tokens left s.parts s.place in
+      let read : top 0 (begin (s.before ++ s.rest)) ≡ Err (Syntax left) = ap (λ z. top 0 (begin z)) (sym s.parts) ∙ is in
       rw same (record {
         front = s.before;
         rest = s.rest;
         parts = s.parts;
-        place = place_of s.before s.rest tokens left s.parts s.place;
+        place = place;
         begins = completes (begin tokens) s.before _ s.viable;
         stuck = refused_stuck l.statements s.before s.rest (omega arith) s.again;
+        clear = at_place s.before (length tokens - left) place (clear_before s.before s.rest (λ n g. syntax_deep _ left n read g) (λ n g. syntax_many _ left n read g));
       })
-  stops tokens (Err (TooMany left)) d s h = let same : d ≡ TooMany left = cc in rw same (passes (λ l. TooMany l) tokens left s)
-  stops tokens (Err (TooDeep left)) d s h = let same : d ≡ TooDeep left = cc in rw same (passes (λ l. TooDeep l) tokens left s)
-  stops tokens (Err NoMemory) d s h = absurd s
+  stops tokens (Err (TooMany left)) d is s h = let same : d ≡ TooMany left = cc in rw same (passes (λ l. TooMany l) (λ k. ManyAt k) judged_many tokens left s)
+  stops tokens (Err (TooDeep left)) d is s h = let same : d ≡ TooDeep left = cc in rw same (passes (λ l. TooDeep l) (λ k. DeepAt k) judged_deep tokens left s)
+  stops tokens (Err NoMemory) d is s h = absurd s
 
   pub stops_at : (tokens : List Token) (d : Stop) → ended (whole l (begin tokens)) ≡ Err d → IsStop tokens d
-  stops_at tokens d h = stops tokens (top 0 (begin tokens)) d ((rule l).predicts (begin tokens)) (ap (λ l. ended (whole l (begin tokens))) (slack-zero l) ∙ h)
+  stops_at tokens d h = stops tokens (top 0 (begin tokens)) d refl ((rule l).predicts (begin tokens)) (ap (λ l. ended (whole l (begin tokens))) (slack-zero l) ∙ h)

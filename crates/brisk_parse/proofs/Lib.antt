@@ -9,6 +9,12 @@ pub mod FoundSequences
 pub mod FoundStatements
 pub mod FoundPrograms
 pub mod ItemLists
+pub mod Judged
+pub mod JudgedExpressions
+pub mod JudgedItems
+pub mod JudgedPrograms
+pub mod JudgedSequences
+pub mod JudgedStatements
 pub mod OnlyExpressions
 pub mod OnlyPrograms
 pub mod OnlySequences

@@ -41,13 +41,13 @@ same_count a b e = omega (arith, e)
 
 -- ---- declarations
 
-kind_only : (x : Kind) (k : List Token) (r n : ℕ) → kind (at (spell.kind x ++ k) r n) ≡ Ok (x, at k r n)
+pub kind_only : (x : Kind) (k : List Token) (r n : ℕ) → kind (at (spell.kind x ++ k) r n) ≡ Ok (x, at k r n)
 unfolding kind
 kind_only kinds.Int k r n = refl
 kind_only kinds.Bool k r n = refl
 kind_only (kinds.Enum e) k r n = refl
 
-kind_begins : (x : Kind) (k : List Token) → begins_kind (first (spell.kind x ++ k)) ≡ true
+pub kind_begins : (x : Kind) (k : List Token) → begins_kind (first (spell.kind x ++ k)) ≡ true
 kind_begins kinds.Int k = refl
 kind_begins kinds.Bool k = refl
 kind_begins (kinds.Enum e) k = refl
@@ -103,7 +103,7 @@ module _ (l : Limits) where
   abbrev behind : Code → List Token → List Token
   behind c k = spell.code c ++ (t.Mark m.RBrace ∷ k)
 
-  not_declaration : (o : Option Token) → begins_statement o ≡ true → begins_declaration o ≡ false
+  pub not_declaration : (o : Option Token) → begins_statement o ≡ true → begins_declaration o ≡ false
   not_declaration (Some (t.Word w.KwVar)) h = absurd cc
   not_declaration (Some (t.Word w.KwInput)) h = absurd cc
   not_declaration _ h = refl
@@ -134,11 +134,11 @@ module _ (l : Limits) where
 
   -- ---- programs
 
-  roles_start : (f : Option Token → Bool) (rs : List RoleText) → f (Some (t.Word w.KwOne)) ≡ false → f (Some (t.Word w.KwMany)) ≡ false → f None ≡ false → f (first (spell.all_of spell.role rs ++ [])) ≡ false
+  pub roles_start : (f : Option Token → Bool) (rs : List RoleText) → f (Some (t.Word w.KwOne)) ≡ false → f (Some (t.Word w.KwMany)) ≡ false → f None ≡ false → f (first (spell.all_of spell.role rs ++ [])) ≡ false
   roles_start f [] one many end = end
   roles_start f (r ∷ rs) one many end = ap (λ l. f (first l)) (append_assoc (spell.role r) (spell.all_of spell.role rs) []) ∙ heading_starts f r.name r.many r.nonempty r.decls r.code (spell.all_of spell.role rs ++ []) false one many
 
-  channels_start : (cs : List Channel) (rs : List RoleText) → begins_enumeration (first (spell.all_of spell.channel cs ++ (spell.all_of spell.role rs ++ []))) ≡ false
+  pub channels_start : (cs : List Channel) (rs : List RoleText) → begins_enumeration (first (spell.all_of spell.channel cs ++ (spell.all_of spell.role rs ++ []))) ≡ false
   channels_start [] rs = roles_start begins_enumeration rs refl refl refl
   channels_start (c ∷ cs) rs = refl
 

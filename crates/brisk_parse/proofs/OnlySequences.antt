@@ -37,7 +37,7 @@ use Rattle.brisk_parse.proofs.OnlyPrograms.{same_count, declaration_only, declar
 
 -- ---- parts of items
 
-box_only : (n : ℕ) (k : List Token) (r c : ℕ) → n ≤ most_box → box_number (at (t.Num n ∷ k) r c) ≡ Ok (n, at k r c)
+pub box_only : (n : ℕ) (k : List Token) (r c : ℕ) → n ≤ most_box → box_number (at (t.Num n ∷ k) r c) ≡ Ok (n, at k r c)
 unfolding box_number
 box_only n k r c h = rw (le-leb n most_box h) refl
 
@@ -46,10 +46,10 @@ unfolding expect
 process_only p k r c = rw (name_laws.refl p) refl
 
 -- what belongs to a process, in brackets, and then k
-abbrev bracketed : List Token → List Token → List Token
+abbrev pub bracketed : List Token → List Token → List Token
 bracketed ts k = t.Mark m.Dot ∷ t.Mark m.LParen ∷ (ts ++ (t.Mark m.RParen ∷ k))
 
-abbrev braced : Items → List Token → List Token
+abbrev pub braced : Items → List Token → List Token
 braced b k = t.Mark m.LBrace ∷ (spell_item.items b ++ (t.Mark m.RBrace ∷ k))
 
 regroup2 : (a b c k : List Token) → a ++ b ++ c ++ k ≡ a ++ (b ++ (c ++ k))
@@ -58,29 +58,29 @@ regroup2 a b c k = simp append_assoc refl
 regroup5 : (a b c d e k : List Token) → a ++ b ++ c ++ d ++ e ++ k ≡ a ++ (b ++ (c ++ (d ++ (e ++ k))))
 regroup5 a b c d e k = simp append_assoc refl
 
-pass_parts : (xs es k : List Token) (q p : Name) → spell_item.at_process q xs ++ spell.mark m.Assign ++ spell_item.at_process p es ++ spell.mark m.Semi ++ k ≡ t.Name q ∷ bracketed xs (t.Mark m.Assign ∷ t.Name p ∷ bracketed es (t.Mark m.Semi ∷ k))
+pub pass_parts : (xs es k : List Token) (q p : Name) → spell_item.at_process q xs ++ spell.mark m.Assign ++ spell_item.at_process p es ++ spell.mark m.Semi ++ k ≡ t.Name q ∷ bracketed xs (t.Mark m.Assign ∷ t.Name p ∷ bracketed es (t.Mark m.Semi ∷ k))
 pass_parts xs es k q p =
     ap (λ z. t.Name q ∷ t.Mark m.Dot ∷ t.Mark m.LParen ∷ z) (regroup5 xs (spell.mark m.RParen) (spell.mark m.Assign) (spell_item.at_process p es) (spell.mark m.Semi) k)
     ∙ ap (λ z. t.Name q ∷ bracketed xs (t.Mark m.Assign ∷ t.Name p ∷ t.Mark m.Dot ∷ t.Mark m.LParen ∷ z)) (append_assoc es (spell.mark m.RParen) (t.Mark m.Semi ∷ k))
 
-fill_parts : (es k : List Token) (n : ℕ) (p q : Name) → spell_item.box n p q ++ spell.mark m.Assign ++ spell_item.at_process p es ++ spell.mark m.Semi ++ k ≡ t.Word w.KwBox ∷ t.Num n ∷ t.Mark m.LParen ∷ t.Name p ∷ t.Word w.KwTo ∷ t.Name q ∷ t.Mark m.RParen ∷ t.Mark m.Assign ∷ t.Name p ∷ bracketed es (t.Mark m.Semi ∷ k)
+pub fill_parts : (es k : List Token) (n : ℕ) (p q : Name) → spell_item.box n p q ++ spell.mark m.Assign ++ spell_item.at_process p es ++ spell.mark m.Semi ++ k ≡ t.Word w.KwBox ∷ t.Num n ∷ t.Mark m.LParen ∷ t.Name p ∷ t.Word w.KwTo ∷ t.Name q ∷ t.Mark m.RParen ∷ t.Mark m.Assign ∷ t.Name p ∷ bracketed es (t.Mark m.Semi ∷ k)
 fill_parts es k n p q = simp append_assoc refl
 
-take_parts : (xs k : List Token) (n : ℕ) (q p : Name) → spell_item.at_process q xs ++ spell.mark m.Assign ++ spell_item.box n p q ++ spell.mark m.Semi ++ k ≡ t.Name q ∷ bracketed xs (t.Mark m.Assign ∷ t.Word w.KwBox ∷ t.Num n ∷ t.Mark m.LParen ∷ t.Name p ∷ t.Word w.KwTo ∷ t.Name q ∷ t.Mark m.RParen ∷ t.Mark m.Semi ∷ k)
+pub take_parts : (xs k : List Token) (n : ℕ) (q p : Name) → spell_item.at_process q xs ++ spell.mark m.Assign ++ spell_item.box n p q ++ spell.mark m.Semi ++ k ≡ t.Name q ∷ bracketed xs (t.Mark m.Assign ∷ t.Word w.KwBox ∷ t.Num n ∷ t.Mark m.LParen ∷ t.Name p ∷ t.Word w.KwTo ∷ t.Name q ∷ t.Mark m.RParen ∷ t.Mark m.Semi ∷ k)
 take_parts xs k n q p = ap (λ z. t.Name q ∷ t.Mark m.Dot ∷ t.Mark m.LParen ∷ z) (regroup5 xs (spell.mark m.RParen) (spell.mark m.Assign) (spell_item.box n p q) (spell.mark m.Semi) k)
 
-while_parts : (e b k : List Token) (p : Name) → spell.word w.KwWhile ++ spell_item.at_process p e ++ spell.braced b ++ k ≡ t.Word w.KwWhile ∷ t.Name p ∷ bracketed e (t.Mark m.LBrace ∷ (b ++ (t.Mark m.RBrace ∷ k)))
+pub while_parts : (e b k : List Token) (p : Name) → spell.word w.KwWhile ++ spell_item.at_process p e ++ spell.braced b ++ k ≡ t.Word w.KwWhile ∷ t.Name p ∷ bracketed e (t.Mark m.LBrace ∷ (b ++ (t.Mark m.RBrace ∷ k)))
 while_parts e b k p =
     ap (λ z. t.Word w.KwWhile ∷ t.Name p ∷ t.Mark m.Dot ∷ t.Mark m.LParen ∷ z) (regroup2 e (spell.mark m.RParen) (spell.braced b) k)
     ∙ ap (λ z. t.Word w.KwWhile ∷ t.Name p ∷ bracketed e (t.Mark m.LBrace ∷ z)) (append_assoc b (spell.mark m.RBrace) k)
 
-if_parts : (e a b k : List Token) (p : Name) → spell.word w.KwIf ++ spell_item.at_process p e ++ spell.braced a ++ spell.word w.KwElse ++ spell.braced b ++ k ≡ t.Word w.KwIf ∷ t.Name p ∷ bracketed e (t.Mark m.LBrace ∷ (a ++ (t.Mark m.RBrace ∷ t.Word w.KwElse ∷ t.Mark m.LBrace ∷ (b ++ (t.Mark m.RBrace ∷ k)))))
+pub if_parts : (e a b k : List Token) (p : Name) → spell.word w.KwIf ++ spell_item.at_process p e ++ spell.braced a ++ spell.word w.KwElse ++ spell.braced b ++ k ≡ t.Word w.KwIf ∷ t.Name p ∷ bracketed e (t.Mark m.LBrace ∷ (a ++ (t.Mark m.RBrace ∷ t.Word w.KwElse ∷ t.Mark m.LBrace ∷ (b ++ (t.Mark m.RBrace ∷ k)))))
 if_parts e a b k p =
     ap (λ z. t.Word w.KwIf ∷ t.Name p ∷ t.Mark m.Dot ∷ t.Mark m.LParen ∷ z) (regroup5 e (spell.mark m.RParen) (spell.braced a) (spell.word w.KwElse) (spell.braced b) k)
     ∙ ap (λ z. t.Word w.KwIf ∷ t.Name p ∷ bracketed e (t.Mark m.LBrace ∷ z)) (append_assoc a (spell.mark m.RBrace) (t.Word w.KwElse ∷ (spell.braced b ++ k)))
     ∙ ap (λ z. t.Word w.KwIf ∷ t.Name p ∷ bracketed e (t.Mark m.LBrace ∷ (a ++ (t.Mark m.RBrace ∷ t.Word w.KwElse ∷ t.Mark m.LBrace ∷ z)))) (append_assoc b (spell.mark m.RBrace) k)
 
-counted : (q : Item) → 1 ≤ items_in q
+pub counted : (q : Item) → 1 ≤ items_in q
 counted (Pass q xs p es) = omega arith
 counted (Fill n p q es) = omega arith
 counted (Take q xs n p) = omega arith
@@ -91,7 +91,7 @@ counted (ForAny s b) = omega arith
 counted (Pick s b) = omega arith
 counted (Repeat s b) = omega arith
 
-item_begins : (q : Item) (k : List Token) → begins_item (first (spell_item.item q ++ k)) ≡ true
+pub item_begins : (q : Item) (k : List Token) → begins_item (first (spell_item.item q ++ k)) ≡ true
 item_begins (Pass q xs p es) k = refl
 item_begins (Fill n p q es) k = refl
 item_begins (Take q xs n p) k = refl
@@ -102,7 +102,7 @@ item_begins (ForAny s b) k = refl
 item_begins (Pick s b) k = refl
 item_begins (Repeat s b) k = refl
 
-items_end : (one : Parser Item) (n : ℕ) (k : List Token) (r a : ℕ) → begins_item (first k) ≡ false → many begins_item one nothing (λ q b. q ⨟ b) n (at k r a) ≡ Ok (nothing, at k r a)
+pub items_end : (one : Parser Item) (n : ℕ) (k : List Token) (r a : ℕ) → begins_item (first k) ≡ false → many begins_item one nothing (λ q b. q ⨟ b) n (at k r a) ≡ Ok (nothing, at k r a)
 unfolding many
 items_end one zero k r a h = rw h refl
 items_end one (suc n) k r a h = rw h refl
@@ -212,7 +212,7 @@ module _ (l : Limits) where
       rw (← parts5 (spell.flag w.KwNonempty is_nonempty) (spell.mark m.LBrace) (spell.all_of spell.declaration ds) [] (spell.mark m.RBrace) k, ← parts3 (spell.all_of spell.declaration ds) [] (spell.mark m.RBrace) k, flag_only w.KwNonempty is_nonempty (t.Mark m.LBrace ∷ (spell.all_of spell.declaration ds ++ (t.Mark m.RBrace ∷ k))) s n refl) (outline_only (text x true is_nonempty ds done) k s n ok)
 
   -- the roles, and then the body
-  roles_start : (rs : List RoleText) (k : List Token) → begins_enumeration (first (spell.all_of spell.role rs ++ (t.Word w.KwBegin ∷ k))) ≡ false
+  pub roles_start : (rs : List RoleText) (k : List Token) → begins_enumeration (first (spell.all_of spell.role rs ++ (t.Word w.KwBegin ∷ k))) ≡ false
   roles_start [] k = refl
   roles_start (r ∷ rs) k = ap (λ z. begins_enumeration (first z)) (append_assoc (spell.role r) (spell.all_of spell.role rs) (t.Word w.KwBegin ∷ k)) ∙ heading_starts l begins_enumeration r.name r.many r.nonempty r.decls r.code (spell.all_of spell.role rs ++ (t.Word w.KwBegin ∷ k)) false refl refl
 

@@ -32,7 +32,7 @@ pub all_both : {A : Type 0} (P Q : A → Type 0) (xs : List A) → AllByRecursio
 all_both P Q [] p q = tt
 all_both P Q (x ∷ xs) p q = ((p.0, q.0), all_both P Q xs p.1 q.1)
 
-expression_begins : (e : Expression) (k : List Token) → begins_expression (first (spell.expression e ++ k)) ≡ true
+pub expression_begins : (e : Expression) (k : List Token) → begins_expression (first (spell.expression e ++ k)) ≡ true
 expression_begins (Num n) k = refl
 expression_begins (Truth true) k = refl
 expression_begins (Truth false) k = refl
@@ -70,7 +70,7 @@ expressions_only l es k r n le good =
 abbrev pub NoElse : List Token → Type 0
 NoElse k = is_token (t.Word w.KwElse) (first k) ≡ false
 
-statement_begins : (s : Statement) (k : List Token) → begins_statement (first (spell.statement s ++ k)) ≡ true
+pub statement_begins : (s : Statement) (k : List Token) → begins_statement (first (spell.statement s ++ k)) ≡ true
 statement_begins (Assign x e) k = refl
 statement_begins (Send x es u) k = refl
 statement_begins (Recv x xs u) k = refl
@@ -86,11 +86,11 @@ pub code_first : (f : Option Token → Bool) → ((o : Option Token) → begins_
 code_first f h done k g = g
 code_first f h (s ⨾ c) k g = h (first (spell.code (s ⨾ c) ++ k)) (ap (λ l. begins_statement (first l)) (append_assoc (spell.statement s) (spell.code c) k) ∙ statement_begins s (spell.code c ++ k))
 
-not_else : (o : Option Token) → begins_statement o ≡ true → is_token (t.Word w.KwElse) o ≡ false
+pub not_else : (o : Option Token) → begins_statement o ≡ true → is_token (t.Word w.KwElse) o ≡ false
 not_else (Some (t.Word w.KwElse)) h = absurd cc
 not_else _ h = refl
 
-counted : (s : Statement) → 1 ≤ counts.statements_in s
+pub counted : (s : Statement) → 1 ≤ counts.statements_in s
 counted (Assign x e) = omega arith
 counted (Send x es u) = omega arith
 counted (Recv x xs u) = omega arith
@@ -101,7 +101,7 @@ counted (While e b) = omega arith
 counted (For v s n b) = omega arith
 counted (Repeat s n b) = omega arith
 
-code_end : (one : Parser Statement) (n : ℕ) (k : List Token) (r a : ℕ) → begins_statement (first k) ≡ false → many begins_statement one done (λ s c. s ⨾ c) n (at k r a) ≡ Ok (done, at k r a)
+pub code_end : (one : Parser Statement) (n : ℕ) (k : List Token) (r a : ℕ) → begins_statement (first k) ≡ false → many begins_statement one done (λ s c. s ⨾ c) n (at k r a) ≡ Ok (done, at k r a)
 unfolding many
 code_end one zero k r a h = rw h refl
 code_end one (suc n) k r a h = rw h refl
@@ -113,13 +113,13 @@ code_from one n s c k r x a b here more = rw (append_assoc (spell.statement s) (
 
 -- ---- parts of statements, grouped as they are read
 
-to_partner : (xs k : List Token) (u : Name) → xs ++ spell.mark m.RParen ++ spell.word w.KwTo ++ spell.name u ++ spell.mark m.Semi ++ k ≡ xs ++ (t.Mark m.RParen ∷ t.Word w.KwTo ∷ t.Name u ∷ t.Mark m.Semi ∷ k)
+pub to_partner : (xs k : List Token) (u : Name) → xs ++ spell.mark m.RParen ++ spell.word w.KwTo ++ spell.name u ++ spell.mark m.Semi ++ k ≡ xs ++ (t.Mark m.RParen ∷ t.Word w.KwTo ∷ t.Name u ∷ t.Mark m.Semi ∷ k)
 to_partner xs k u = simp append_assoc refl
 
-from_partner : (xs k : List Token) (u : Name) → xs ++ spell.mark m.RParen ++ spell.word w.KwFrom ++ spell.name u ++ spell.mark m.Semi ++ k ≡ xs ++ (t.Mark m.RParen ∷ t.Word w.KwFrom ∷ t.Name u ∷ t.Mark m.Semi ∷ k)
+pub from_partner : (xs k : List Token) (u : Name) → xs ++ spell.mark m.RParen ++ spell.word w.KwFrom ++ spell.name u ++ spell.mark m.Semi ++ k ≡ xs ++ (t.Mark m.RParen ∷ t.Word w.KwFrom ∷ t.Name u ∷ t.Mark m.Semi ∷ k)
 from_partner xs k u = simp append_assoc refl
 
-if_else : (e a b k : List Token) → e ++ a ++ spell.word w.KwElse ++ b ++ k ≡ e ++ (a ++ (t.Word w.KwElse ∷ (b ++ k)))
+pub if_else : (e a b k : List Token) → e ++ a ++ spell.word w.KwElse ++ b ++ k ≡ e ++ (a ++ (t.Word w.KwElse ∷ (b ++ k)))
 if_else e a b k = simp append_assoc refl
 
 -- ---- statements

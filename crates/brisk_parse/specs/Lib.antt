@@ -6,7 +6,9 @@ pub mod Input
 pub mod Levelled
 pub mod Limits
 pub mod Outcomes
+pub mod Passing
 pub mod Reading
+pub mod SequencePassing
 pub mod SequenceSpelling
 pub mod Sequences
 pub mod Spelling

@@ -401,6 +401,20 @@ module _ (l : Limits) where
         };
       }))))))
 
+-- what is read is within the limits
+pub whole_within : (l : Limits) (i : Input) (P : SeqProgram) (j : Input) → i.statements ≤ l.statements → whole l i ≡ Ok (P, j) → SequenceWithin l P
+whole_within l i P j le h =
+    let a = (whole_found l i).holds P j h in
+    record {
+      enums = a.good.enums;
+      each_enum = a.good.each_enum;
+      roles = a.good.roles;
+      each_role = a.good.each_role;
+      body = a.good.body;
+      nesting = a.good.nesting;
+      statements = omega (arith, a.statements, le);
+    }
+
 -- what is read of a sequential text's tokens is what they denote
 pub sequential_found : (tokens : List Placed) (P : SeqProgram) → sequential sequence tokens ≡ Ok P → DenotesSequence tokens P
 unfolding sequential
@@ -410,13 +424,5 @@ sequential_found tokens P h =
     record {
       spelled = a.spelled ∙ ap (λ l. sequence_spelling P ++ l) e.2 ∙ append-nil (sequence_spelling P);
       levelled = a.good.levelled;
-      within = record {
-        enums = a.good.enums;
-        each_enum = a.good.each_enum;
-        roles = a.good.roles;
-        each_role = a.good.each_role;
-        body = a.good.body;
-        nesting = a.good.nesting;
-        statements = omega (arith, a.statements);
-      };
+      within = whole_within sequence (start tokens sequence.statements) P e.0 (omega arith) e.1;
     }

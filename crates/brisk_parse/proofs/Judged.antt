@@ -40,6 +40,19 @@ judged_last Nowhere i x j f o h = h
 judged_last (DeepAt k) i x j f o h = refl
 judged_last (ManyAt k) i x j f o h = refl
 
+-- so many may still begin
+pub one_less : (n : ℕ) → n ≡ suc n - 1
+one_less n = omega arith
+
+pub less_in : (n c : ℕ) → n - c ≡ suc n - (1 + c)
+less_in n c = omega arith
+
+pub less_both : (n a b : ℕ) → n - a - b ≡ suc n - (1 + a + b)
+less_both n a b = omega arith
+
+pub less_then : (n a b : ℕ) → n - a - b ≡ n - (a + b)
+less_then n a b = omega arith
+
 pub at_once : (i : List Token) → length i ≡ length i - 0
 at_once i = omega arith
 

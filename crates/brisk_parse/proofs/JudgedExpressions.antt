@@ -26,7 +26,7 @@ use Rattle.brisk_parse.proofs.Found.{positive}
 use Rattle.brisk_parse.proofs.FoundExpressions.{expression_found}
 use Rattle.brisk_parse.proofs.Judged.{judged}
 use Rattle.brisk_parse.proofs.OnlyExpressions.{size, expression_only}
-use Rattle.brisk_parse.proofs.OnlyStatements.{expression_begins}
+use Rattle.brisk_parse.proofs.StatementParts.{expression_begins}
 use Rattle.brisk_parse.proofs.Predictive.{none, plus, Shape, first_is, plus_more, plus-zero}
 use Rattle.brisk_parse.proofs.PredictLists.{seen}
 use Rattle.brisk_parse.proofs.PredictExpressions.{ends, ends_binding, operator_token, operator_first, comparison_first, wholes, expression_item}

@@ -23,12 +23,12 @@ use Rattle.brisk_parse.specs.SequencePassing.{opened}
 use Rattle.brisk_parse.specs.SequenceSpelling.{LevelledItem, LevelledItems, items_in, count_items}
 use Rattle.brisk_parse.specs.SequenceSpelling as spell_item
 use Rattle.brisk_parse.specs.Spelling as spell
-use Rattle.brisk_parse.proofs.Judged.{judged, judged_behind, judged_then, judged_last, at_once}
+use Rattle.brisk_parse.proofs.Judged.{judged, judged_behind, judged_then, judged_last, one_less, less_in, less_both, less_then, at_once}
 use Rattle.brisk_parse.proofs.JudgedExpressions.{expression_judged}
 use Rattle.brisk_parse.proofs.JudgedStatements.{names_judged, expressions_judged}
 use Rattle.brisk_parse.proofs.OnlyTokens.{count_only}
-use Rattle.brisk_parse.proofs.OnlySequences as only
-use Rattle.brisk_parse.proofs.OnlySequences.{box_only, pass_parts, fill_parts, take_parts, while_parts, if_parts, bracketed, braced, item_begins, items_end}
+use Rattle.brisk_parse.proofs.ItemParts as only
+use Rattle.brisk_parse.proofs.ItemParts.{box_only, pass_parts, fill_parts, take_parts, while_parts, if_parts, bracketed, braced, item_begins, items_end}
 
 module _ (l : Limits) where
   -- ---- what belongs to a process
@@ -93,18 +93,6 @@ module _ (l : Limits) where
       → item_by l (block l d) (first z) (at (drop 1 z) r n) ≡ judged (pass_item.item l d n q) z (Ok (q, at k r (suc n - items_in q)))
       → item_by l (block l d) (first (spell_item.item q ++ k)) (at (drop 1 (spell_item.item q ++ k)) r n) ≡ judged (pass_item.item l d n q) (spell_item.item q ++ k) (Ok (q, at k r (suc n - items_in q)))
   regrouped d q k z r n e h = subst (λ z. item_by l (block l d) (first z) (at (drop 1 z) r n) ≡ judged (pass_item.item l d n q) z (Ok (q, at k r (suc n - items_in q)))) (sym e) h
-
-  one_less : (n : ℕ) → n ≡ suc n - 1
-  one_less n = omega arith
-
-  less_in : (n c : ℕ) → n - c ≡ suc n - (1 + c)
-  less_in n c = omega arith
-
-  less_both : (n a b : ℕ) → n - a - b ≡ suc n - (1 + a + b)
-  less_both n a b = omega arith
-
-  less_then : (n a b : ℕ) → n - a - b ≡ n - (a + b)
-  less_then n a b = omega arith
 
   -- an item where none may begin
   items_full : (d : ℕ) (q : Item) (b : Items) (k : List Token) (r n : ℕ) → n ≤ 0

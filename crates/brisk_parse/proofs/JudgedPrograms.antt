@@ -26,8 +26,8 @@ use Rattle.brisk_parse.specs.Spelling as spell
 use Rattle.brisk_parse.proofs.Found.{parts3, parts4}
 use Rattle.brisk_parse.proofs.Judged.{judged, judged_behind, judged_then, judged_last, separated_judged, listed_judged, list_judged, plain_judged}
 use Rattle.brisk_parse.proofs.JudgedStatements.{code_judged}
-use Rattle.brisk_parse.proofs.OnlyStatements.{name_only, all_any, code_first}
-use Rattle.brisk_parse.proofs.OnlyPrograms.{kind_only, kind_begins, declaration_only, declaration_begins, flag_only, not_declaration, heading_starts, roles_start, channels_start}
+use Rattle.brisk_parse.proofs.StatementParts.{name_only, all_any, code_first}
+use Rattle.brisk_parse.proofs.ProgramParts.{kind_only, kind_begins, declaration_only, declaration_begins, flag_only, not_declaration, heading_starts, roles_start, channels_start}
 
 module _ (l : Limits) where
   -- ---- declarations
@@ -83,7 +83,7 @@ module _ (l : Limits) where
       let inside = passing.code l l.nesting n c in
       let left = n - counts.statements c in
       let read = code_judged l l.nesting l.statements c (t.Mark mk.RBrace ∷ k) r n levelled.1 (refl, refl) le le in
-      rw (declarations_judged ds next r n (code_first begins_declaration (not_declaration l) c (t.Mark mk.RBrace ∷ k) refl))
+      rw (declarations_judged ds next r n (code_first begins_declaration not_declaration c (t.Mark mk.RBrace ∷ k) refl))
       (judged_then (passing.declarations l (text x is_many is_nonempty ds c)) inside (spell.all_of spell.declaration ds) next ds (at next r n) _ _
       (ap (λ o. and_then o (λ c i. and_then (expect (t.Mark mk.RBrace) i) (λ _ i. Ok (text x is_many is_nonempty ds c, i)))) read
       ∙ judged_last inside next c (at (t.Mark mk.RBrace ∷ k) r left) (λ c i. and_then (expect (t.Mark mk.RBrace) i) (λ _ i. Ok (text x is_many is_nonempty ds c, i))) _ refl))
@@ -122,9 +122,9 @@ module _ (l : Limits) where
       let grouped : spell.spelling P ≡ es ++ (cs ++ (rs ++ [])) = sym (append-nil (spell.spelling P)) ∙ sym (parts3 es cs rs []) in
       let in_channels = passing.all_of (λ _ c. passing.channel l c) (λ _. 0) spell.channel l.channels 0 P.channels in
       let in_roles = passing.all_of (passing.role l) (λ r. counts.statements r.code) spell.role l.roles n P.roles in
-      let channels = plain_judged (passing.channel l) spell.channel (λ _. Unit {0}) begins_channel (channel l) (λ c k r n good. channel_judged c k r n) (λ c k. refl) l.channels P.channels (rs ++ []) s n (all_any P.channels) (roles_start l begins_channel P.roles refl refl refl) in
-      let roles = list_judged n (passing.role l) (λ r. counts.statements r.code) spell.role LevelledRole begins_role (role l) (λ x k r n good le. role_of x.name x.many x.nonempty x.decls x.code k r n good le) (λ x k. heading_starts l begins_role x.name x.many x.nonempty x.decls x.code k true refl refl) l.roles P.roles [] s n levelled.roles refl (omega arith) in
-      rw (grouped, enumerations_judged P.enums (cs ++ (rs ++ [])) s n levelled.enums (channels_start l P.channels P.roles))
+      let channels = plain_judged (passing.channel l) spell.channel (λ _. Unit {0}) begins_channel (channel l) (λ c k r n good. channel_judged c k r n) (λ c k. refl) l.channels P.channels (rs ++ []) s n (all_any P.channels) (roles_start begins_channel P.roles refl refl refl) in
+      let roles = list_judged n (passing.role l) (λ r. counts.statements r.code) spell.role LevelledRole begins_role (role l) (λ x k r n good le. role_of x.name x.many x.nonempty x.decls x.code k r n good le) (λ x k. heading_starts begins_role x.name x.many x.nonempty x.decls x.code k true refl refl) l.roles P.roles [] s n levelled.roles refl (omega arith) in
+      rw (grouped, enumerations_judged P.enums (cs ++ (rs ++ [])) s n levelled.enums (channels_start P.channels P.roles))
       (judged_then (passing.all_of (λ _ e. passing.enumeration l e) (λ _. 0) spell.enumeration l.enums 0 P.enums) (or_behind in_channels cs in_roles) es (cs ++ (rs ++ [])) P.enums (at (cs ++ (rs ++ [])) s n) _ (Ok (P, at [] s left))
       (ap (λ o. and_then o (λ cs i. and_then (list_of begins_role (role l) l.roles i) (λ rs i. Ok (record { enums = P.enums; channels = cs; roles = rs }, i)))) channels
       ∙ judged_then in_channels in_roles cs (rs ++ []) P.channels (at (rs ++ []) s n) (λ cs i. and_then (list_of begins_role (role l) l.roles i) (λ rs i. Ok (record { enums = P.enums; channels = cs; roles = rs }, i))) (Ok (P, at [] s left))

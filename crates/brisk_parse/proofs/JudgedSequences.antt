@@ -26,8 +26,8 @@ use Rattle.brisk_parse.proofs.FoundSequences.{sequence_parts}
 use Rattle.brisk_parse.proofs.Judged.{judged, judged_behind, judged_then, judged_last, plain_judged}
 use Rattle.brisk_parse.proofs.JudgedItems.{items_judged}
 use Rattle.brisk_parse.proofs.JudgedPrograms.{declarations_judged, enumerations_judged}
-use Rattle.brisk_parse.proofs.OnlyPrograms.{heading_starts}
-use Rattle.brisk_parse.proofs.OnlySequences.{roles_start}
+use Rattle.brisk_parse.proofs.ProgramParts.{heading_starts}
+use Rattle.brisk_parse.proofs.ItemParts.{roles_start}
 
 module _ (l : Limits) where
   abbrev text : Name → Bool → Bool → List Decl → Code → RoleText
@@ -76,9 +76,9 @@ module _ (l : Limits) where
       let in_roles = passing.all_of (λ _ r. pass_item.outline l r) (λ _. 0) spell.role l.roles 0 P.roles in
       let in_items = pass_item.items l l.nesting n P.body in
       let in_body = behind (spell.word w.KwBegin) in_items in
-      let roles = plain_judged (pass_item.outline l) spell.role LevelledOutline begins_role (role l) (λ x k r n good. role_of x.name x.many x.nonempty x.decls x.code k r n good) (λ x k. heading_starts l begins_role x.name x.many x.nonempty x.decls x.code k true refl refl) l.roles P.roles next s n levelled.roles refl in
+      let roles = plain_judged (pass_item.outline l) spell.role LevelledOutline begins_role (role l) (λ x k r n good. role_of x.name x.many x.nonempty x.decls x.code k r n good) (λ x k. heading_starts begins_role x.name x.many x.nonempty x.decls x.code k true refl refl) l.roles P.roles next s n levelled.roles refl in
       let body = items_judged l l.nesting n P.body last s n levelled.body refl (omega arith) (omega arith) in
-      rw (grouped, enumerations_judged l P.enums (rs ++ next) s n levelled.enums (roles_start l P.roles (b ++ last)))
+      rw (grouped, enumerations_judged l P.enums (rs ++ next) s n levelled.enums (roles_start P.roles (b ++ last)))
       (judged_then (passing.all_of (λ _ e. passing.enumeration l e) (λ _. 0) spell.enumeration l.enums 0 P.enums) (or_behind in_roles rs in_body) es (rs ++ next) P.enums (at (rs ++ next) s n) _ (Ok (P, at [] s left))
       (ap (λ o. and_then o (λ rs i. and_then (expect (t.Word w.KwBegin) i) (λ _ i. and_then (items l (block l l.nesting) i) (λ b i. and_then (expect (t.Word w.KwEnd) i) (λ _ i. Ok (record { enums = P.enums; roles = rs; body = b }, i)))))) roles
       ∙ judged_then in_roles in_body rs next P.roles (at next s n) (λ rs i. and_then (expect (t.Word w.KwBegin) i) (λ _ i. and_then (items l (block l l.nesting) i) (λ b i. and_then (expect (t.Word w.KwEnd) i) (λ _ i. Ok (record { enums = P.enums; roles = rs; body = b }, i))))) (Ok (P, at [] s left))

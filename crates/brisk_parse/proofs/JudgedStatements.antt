@@ -1,5 +1,5 @@
 -- A statement or code is read, or stops where it passes a limit first.
-use Rattle.std.proofs.Common.{◌≡◌, ℕ, zero, suc, ◌+◌, ◌-◌, ◌≤◌, true, false, List, [], ◌∷◌, ◌++◌, drop, Ok, Err, refl, sym, ap, ◌∙◌, append_assoc, arith}
+use Rattle.std.proofs.Common.{◌≡◌, ℕ, zero, suc, ◌-◌, ◌≤◌, true, false, List, [], ◌∷◌, ◌++◌, drop, Ok, Err, refl, sym, ap, ◌∙◌, append_assoc, arith}
 use Rattle.std.specs.List.{AllByRecursion}
 use Rattle.brisk_values.specs.Names.{Name}
 use Rattle.brisk_lex.specs.declared.token.Mark.TheVariants as mk
@@ -21,11 +21,11 @@ use Rattle.brisk_parse.specs.Passing.{Passing, Nowhere, behind, or_behind, count
 use Rattle.brisk_parse.specs.Passing as passing
 use Rattle.brisk_parse.specs.Spelling as spell
 use Rattle.brisk_parse.proofs.FoundStatements.{braced, from_any}
-use Rattle.brisk_parse.proofs.Judged.{judged, judged_behind, judged_then, judged_last, at_once, listed_judged}
+use Rattle.brisk_parse.proofs.Judged.{judged, judged_behind, judged_then, judged_last, one_less, less_in, less_both, less_then, at_once, listed_judged}
 use Rattle.brisk_parse.proofs.JudgedExpressions.{expression_judged}
 use Rattle.brisk_parse.proofs.OnlyTokens.{count_only}
-use Rattle.brisk_parse.proofs.OnlyStatements as only
-use Rattle.brisk_parse.proofs.OnlyStatements.{name_only, all_any, NoElse, statement_begins, code_first, not_else, code_end, expression_begins, to_partner, from_partner, if_else}
+use Rattle.brisk_parse.proofs.StatementParts as only
+use Rattle.brisk_parse.proofs.StatementParts.{name_only, all_any, NoElse, statement_begins, code_first, not_else, code_end, expression_begins, to_partner, from_partner, if_else}
 use Rattle.brisk_parse.proofs.PredictExpressions.{ends}
 
 -- ---- lists in statements
@@ -72,18 +72,6 @@ module _ (l : Limits) where
   unfolding statement count
   statement_from d s inside k r zero free le = rw (statement_begins s k) (ap (λ n. Err (TooMany n)) (at_once (spell.statement s ++ k)))
   statement_from d s inside k r (suc n) free le = rw (statement_begins s k, count_only (spell.statement s ++ k) r (suc n) n (omega arith)) (inside k r n free le)
-
-  one_less : (n : ℕ) → n ≡ suc n - 1
-  one_less n = omega arith
-
-  less_in : (n c : ℕ) → n - c ≡ suc n - (1 + c)
-  less_in n c = omega arith
-
-  less_both : (n a b : ℕ) → n - a - b ≡ suc n - (1 + a + b)
-  less_both n a b = omega arith
-
-  less_then : (n a b : ℕ) → n - a - b ≡ n - (a + b)
-  less_then n a b = omega arith
 
   -- a statement where none may begin
   code_full : (d : ℕ) (s : Statement) (c : Code) (k : List Token) (r n : ℕ) → n ≤ 0

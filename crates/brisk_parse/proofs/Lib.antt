@@ -9,16 +9,16 @@ pub mod FoundSequences
 pub mod FoundStatements
 pub mod FoundPrograms
 pub mod ItemLists
+pub mod ItemParts
 pub mod Judged
 pub mod JudgedExpressions
 pub mod JudgedItems
 pub mod JudgedPrograms
 pub mod JudgedSequences
 pub mod JudgedStatements
+pub mod NothingPassed
+pub mod NothingPassedItems
 pub mod OnlyExpressions
-pub mod OnlyPrograms
-pub mod OnlySequences
-pub mod OnlyStatements
 pub mod OnlyTokens
 pub mod Outcomes
 pub mod PredictExpressions
@@ -28,5 +28,7 @@ pub mod PredictStatements
 pub mod PredictPrograms
 pub mod PredictSequences
 pub mod Predictive
+pub mod ProgramParts
 pub mod Repetitions
+pub mod StatementParts
 pub mod Tails

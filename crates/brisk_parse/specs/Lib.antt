@@ -3,6 +3,7 @@ pub mod Declarations
 pub mod Expressions
 pub mod Faults
 pub mod Input
+pub mod Laws
 pub mod Levelled
 pub mod Limits
 pub mod Outcomes

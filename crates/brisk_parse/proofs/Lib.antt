@@ -21,6 +21,7 @@ pub mod NothingPassedItems
 pub mod OnlyExpressions
 pub mod OnlyTokens
 pub mod Outcomes
+pub mod PredictBlocks
 pub mod PredictExpressions
 pub mod PredictItems
 pub mod PredictLists

@@ -16,7 +16,8 @@ use Rattle.brisk_parse.specs.Reading.{expect, name, number, listed, separated, b
 use Rattle.brisk_parse.specs.Statements.{begins_statement}
 use Rattle.brisk_parse.proofs.Predictive.{Follow, any, none, Rule, joined, join_shape, then_rule, pure_rule, value_rule, moves_to, choice_rule, Entry, Item, item_rule, item_of}
 use Rattle.brisk_parse.proofs.PredictLists.{seen, free, free_gate, token_entry, expect_rule, name_item, name_rule, comma, separated_rule, listed_rule, many_rule}
-use Rattle.brisk_parse.proofs.PredictStatements.{slack, left_brace, right_brace, right_paren, to_any, only, block_item, code_rule}
+use Rattle.brisk_parse.proofs.PredictBlocks.{left_brace, right_brace}
+use Rattle.brisk_parse.proofs.PredictStatements.{slack, right_paren, to_any, only, block_item, code_rule}
 
 abbrev semi : Token
 semi = t.Mark mk.Semi

@@ -11,7 +11,8 @@ use Rattle.brisk_parse.specs.Limits.{Limits}
 use Rattle.brisk_parse.specs.Sequences.{outline, single_role, set_role, role, whole}
 use Rattle.brisk_parse.proofs.Predictive.{Follow, any, Rule, then_rule, pure_rule, value_rule, Entry, Item, item_of}
 use Rattle.brisk_parse.proofs.PredictLists.{free, free_gate, expect_rule, name_rule, many_rule}
-use Rattle.brisk_parse.proofs.PredictStatements.{slack, left_brace, right_brace, only}
+use Rattle.brisk_parse.proofs.PredictBlocks.{left_brace, right_brace}
+use Rattle.brisk_parse.proofs.PredictStatements.{slack, only}
 use Rattle.brisk_parse.proofs.PredictPrograms.{at_last, flag_rule, declaration_item, enumeration_item}
 use Rattle.brisk_parse.proofs.PredictItems.{block_item, items_rule}
 

@@ -53,12 +53,15 @@ all_of passes used spelled (suc m) n (x ∷ xs) = or_behind (passes n x) (spelle
 
 -- ---- statements
 
+-- an expression, which may have so many tokens
 abbrev pub expression : Limits → Expression → Passing
 expression l e = (if nat_le (length (spell.expression e)) l.tokens then Nowhere else ManyAt l.tokens)
 
+-- the expressions of a message
 abbrev pub expressions : Limits → List Expression → Passing
 expressions l es = separated (expression l) spell.expression l.places es
 
+-- the variables of a message
 abbrev pub variables : Limits → List Name → Passing
 variables l xs = separated (λ _. Nowhere) name l.places xs
 
@@ -93,12 +96,15 @@ abbrev mutual
 
 -- ---- programs
 
+-- an enumeration, which may have so many tags
 abbrev pub enumeration : Limits → EnumDecl → Passing
 enumeration l e = behind (word w.KwEnum ++ name e.name ++ mark m.LBrace) (separated (λ _. Nowhere) name l.tags e.tags)
 
+-- a channel, which may have so many kinds
 abbrev pub channel : Limits → Channel → Passing
 channel l c = behind (word w.KwChannel ++ name c.name ++ mark m.LParen) (separated (λ _. Nowhere) spell.kind l.kinds c.kinds)
 
+-- the declarations of a role
 abbrev pub declarations : Limits → RoleText → Passing
 declarations l r = all_of (λ _ _. Nowhere) (λ _. 0) spell.declaration l.declarations 0 r.decls
 
@@ -110,6 +116,7 @@ role l n r = behind (spell.heading r ++ mark m.LBrace) (or_behind (declarations 
 abbrev pub enumerations : Limits → List EnumDecl → Passing → Passing
 enumerations l es rest = or_behind (all_of (λ _ e. enumeration l e) (λ _. 0) spell.enumeration l.enums 0 es) (spell.all_of spell.enumeration es) rest
 
+-- a program
 abbrev pub program : Limits → Program → Passing
 program l P =
     enumerations l P.enums (or_behind (all_of (λ _ c. channel l c) (λ _. 0) spell.channel l.channels 0 P.channels) (spell.all_of spell.channel P.channels)

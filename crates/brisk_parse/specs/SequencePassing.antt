@@ -40,6 +40,7 @@ abbrev mutual
 abbrev pub outline : Limits → RoleText → Passing
 outline l r = behind (spell.heading r ++ mark m.LBrace) (declarations l r)
 
+-- a sequential program
 abbrev pub sequence : Limits → SeqProgram → Passing
 sequence l P =
     enumerations l P.enums (or_behind (all_of (λ _ r. outline l r) (λ _. 0) spell.role l.roles 0 P.roles) (spell.all_of spell.role P.roles)

@@ -1,4 +1,4 @@
--- Where reading stops, the tokens denote no program.
+-- What the two calls answer: the program that is denoted, or the first token at fault.
 use Rattle.std.proofs.lemmas.List.{length-map}
 use Rattle.std.proofs.Common.{◌≡◌, List, ◌++◌, length, Result, Ok, Err, sym, subst, ◌∙◌, [], ap, ◌-◌, refl, arith}
 use Rattle.brisk_lex.specs.declared.token.Placed.{Placed}

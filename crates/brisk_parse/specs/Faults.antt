@@ -1,6 +1,8 @@
 -- Which token is at fault.
 use Rattle.std.specs.Prelude.{◌≡◌, ℕ, ◌≤◌, List, [], ◌∷◌, ◌++◌, length}
 use Rattle.brisk_lex.specs.declared.token.Token.{Token}
+use Rattle.brisk_syntax.specs.declared.program.Program.{Program}
+use Rattle.brisk_seq.specs.declared.tree.SeqProgram.{SeqProgram}
 use Rattle.brisk_parse.specs.declared.fault.ParseFault.{ParseFault}
 use Rattle.brisk_parse.specs.declared.fault.ParseFault.TheVariants.{SyntaxFault, TooDeep, TooMany, NoMemory}
 use Rattle.brisk_parse.specs.Levelled.{LevelledProgram}
@@ -20,11 +22,11 @@ pub record Language : Type 1 where
 
 -- programs of a source
 abbrev pub programs : Language
-programs = record { Tree = _; spelling = spelling; Levelled = LevelledProgram; passing = passing.program source }
+programs = record { Tree = Program; spelling = spelling; Levelled = LevelledProgram; passing = passing.program source }
 
 -- sequential programs of a sequential text
 abbrev pub sequences : Language
-sequences = record { Tree = _; spelling = sequence_spelling; Levelled = LevelledSequence; passing = sequence_passing.sequence sequence }
+sequences = record { Tree = SeqProgram; spelling = sequence_spelling; Levelled = LevelledSequence; passing = sequence_passing.sequence sequence }
 
 -- the spelling of a levelled tree, which may pass all limits, begins with these tokens
 pub record Begins (L : Language) (front : List Token) : Type 0 where

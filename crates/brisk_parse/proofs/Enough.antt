@@ -1,6 +1,7 @@
 -- Each program is within limits that are great enough.
 use Rattle.std.proofs.Common.{ℕ, ◌+◌, ◌≤◌, List, [], ◌∷◌, length, arith}
 use Rattle.std.specs.List.{AllByRecursion}
+use Rattle.brisk_syntax.specs.declared.program.EnumDecl.{EnumDecl}
 use Rattle.brisk_syntax.specs.declared.program.Program.{Program}
 use Rattle.brisk_syntax.specs.Counts.{program_statements}
 use Rattle.brisk_syntax.specs.Depths.{code_depth}
@@ -27,7 +28,7 @@ pub record Enough (P : Limits → Type 0) : Type 0 where
   pub bound : ℕ
   pub holds : (l : Limits) → AtLeast bound l → P l
 
-smaller : (a b : ℕ) (l : Limits) → b ≤ a → AtLeast a l → AtLeast b l
+pub smaller : (a b : ℕ) (l : Limits) → b ≤ a → AtLeast a l → AtLeast b l
 smaller a b l le h = record {
   tokens = omega (arith, le, h.tokens);
   places = omega (arith, le, h.places);
@@ -41,20 +42,20 @@ smaller a b l le h = record {
   nesting = omega (arith, le, h.nesting);
 }
 
-both : (P Q : Limits → Type 0) → Enough P → Enough Q → Enough (λ l. P l × Q l)
+pub both : (P Q : Limits → Type 0) → Enough P → Enough Q → Enough (λ l. P l × Q l)
 both P Q p q = record { bound = p.bound + q.bound; holds = λ l h. (p.holds l (smaller (p.bound + q.bound) p.bound l (omega arith) h), q.holds l (smaller (p.bound + q.bound) q.bound l (omega arith) h)) }
 
-all : {A : Type 0} (P : Limits → A → Type 0) → ((x : A) → Enough (λ l. P l x)) → (xs : List A) → Enough (λ l. AllByRecursion (P l) xs)
+pub all : {A : Type 0} (P : Limits → A → Type 0) → ((x : A) → Enough (λ l. P l x)) → (xs : List A) → Enough (λ l. AllByRecursion (P l) xs)
 all P each [] = record { bound = 0; holds = λ l h. tt }
 all P each (x ∷ xs) = both (λ l. P l x) (λ l. AllByRecursion (P l) xs) (each x) (all P each xs)
 
-short : (e : Expression) → Enough (λ l. Short l e)
+pub short : (e : Expression) → Enough (λ l. Short l e)
 short e = record { bound = size e; holds = λ l h. h.tokens }
 
-abbrev Places : ℕ → Limits → Type 0
+abbrev pub Places : ℕ → Limits → Type 0
 Places n l = n ≤ 1 + l.places
 
-placed : (n : ℕ) → Enough (Places n)
+pub placed : (n : ℕ) → Enough (Places n)
 placed n = record { bound = n; holds = λ l h. omega (arith, h.places) }
 
 mutual
@@ -84,9 +85,12 @@ role_enough r =
       holds = λ l h. (omega (arith, h.declarations), omega (arith, h.nesting), code.holds l (smaller (length r.decls + code_depth r.code + code.bound) code.bound l (omega arith) h));
     }
 
+pub enum_enough : (e : EnumDecl) → Enough (λ l. EnumWithin l e)
+enum_enough e = record { bound = length e.tags; holds = λ l h. omega (arith, h.tags) }
+
 pub program_enough : (P : Program) → Enough (λ l. Within l P)
 program_enough P =
-    let enums = all EnumWithin (λ e. record { bound = length e.tags; holds = λ l h. omega (arith, h.tags) }) P.enums in
+    let enums = all EnumWithin enum_enough P.enums in
     let channels = all ChannelWithin (λ c. record { bound = length c.kinds; holds = λ l h. omega (arith, h.kinds) }) P.channels in
     let roles = all RoleWithin role_enough P.roles in
     let lists = length P.enums + length P.channels + length P.roles + program_statements P in

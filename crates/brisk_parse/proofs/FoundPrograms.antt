@@ -25,7 +25,7 @@ use Rattle.brisk_parse.specs.Outcomes.{Outcome}
 use Rattle.brisk_parse.specs.Reading.{expect, name, number, listed, separated, list_of, begins_name}
 use Rattle.brisk_parse.specs.Statements.{statements, block}
 use Rattle.brisk_parse.specs.Spelling as spell
-use Rattle.brisk_parse.specs.Within.{EnumWithin, ChannelWithin, RoleWithin, Denotes}
+use Rattle.brisk_parse.specs.Within.{EnumWithin, ChannelWithin, RoleWithin, Within, Denotes}
 use Rattle.brisk_parse.proofs.Found.{parts3, parts4, parts5, Found, found_then, found_ok, found_err, found_if, found_so, found_after, Spelled, Plain, Any, expect_found, name_found, number_found, listed_found, separated_found, list_found}
 use Rattle.brisk_parse.proofs.FoundStatements.{all_so, plain, CodeFits, statements_found, block_found}
 
@@ -257,6 +257,20 @@ pub ended_is : {A : Type 0} (r : Outcome A) (y : A) → ended r ≡ Ok y → (j 
 ended_is (Ok (x, j)) y h = let e = at_end_is x y j.rest h in (j, ap (λ z. Ok (z, j)) e.0, e.1)
 ended_is (Err d) y h = absurd cc
 
+-- what is read is within the limits
+pub whole_within : (l : Limits) (i : Input) (P : Program) (j : Input) → i.statements ≤ l.statements → whole l i ≡ Ok (P, j) → Within l P
+whole_within l i P j le h =
+    let a = (whole_found l i).holds P j h in
+    record {
+      enums = a.good.enums;
+      each_enum = a.good.each_enum;
+      channels = a.good.channels;
+      each_channel = a.good.each_channel;
+      roles = a.good.roles;
+      each_role = a.good.each_role;
+      statements = omega (arith, a.statements, le);
+    }
+
 -- what is read of a source's tokens is what they denote
 pub program_found : (tokens : List Placed) (P : Program) → program source tokens ≡ Ok P → Denotes tokens P
 unfolding program
@@ -266,13 +280,5 @@ program_found tokens P h =
     record {
       spelled = a.spelled ∙ ap (λ l. spell.spelling P ++ l) e.2 ∙ append-nil (spell.spelling P);
       levelled = a.good.levelled;
-      within = record {
-        enums = a.good.enums;
-        each_enum = a.good.each_enum;
-        channels = a.good.channels;
-        each_channel = a.good.each_channel;
-        roles = a.good.roles;
-        each_role = a.good.each_role;
-        statements = omega (arith, a.statements);
-      };
+      within = whole_within source (start tokens source.statements) P e.0 (omega arith) e.1;
     }

@@ -137,7 +137,7 @@ module _ (l : Limits) where
         spelled = simp (a1.spelled, a2.spelled, a3.spelled, a4.spelled, a5.spelled, a6.spelled, a7.spelled, a8.spelled, a9.spelled, a10.spelled) (ap (λ z. t.Word w.KwBox ∷ t.Num n ∷ t.Mark m.LParen ∷ t.Name p ∷ t.Word w.KwTo ∷ t.Name q ∷ t.Mark m.RParen ∷ t.Mark m.Assign ∷ t.Name p ∷ z) (filled (spell.expressions es) j10.rest));
         room = a10.room ∙ a9.room ∙ a8.room ∙ a7.room ∙ a6.room ∙ a5.room ∙ a4.room ∙ a3.room ∙ a2.room ∙ a1.room;
         statements = omega (arith, a1.statements, a2.statements, a3.statements, a4.statements, a5.statements, a6.statements, a7.statements, a8.statements, a9.statements, a10.statements);
-        good = record { levelled = all_so _ Levelled (λ e h. h.0) es a9.good.0; within = (a1.good, a9.good.1, all_so _ (Short l) (λ e h. h.1) es a9.good.0); depth = omega arith };
+        good = record { levelled = (a1.good, all_so _ Levelled (λ e h. h.0) es a9.good.0); within = (a9.good.1, all_so _ (Short l) (λ e h. h.1) es a9.good.0); depth = omega arith };
       })))))))))))
 
   stored_found : (d : ℕ) (q : Name) (i : Input) → Found (stored l q i) (IsItem d (t.Name q) i)
@@ -158,7 +158,7 @@ module _ (l : Limits) where
         spelled = simp (a1.spelled, a2.spelled, a3.spelled, a4.spelled, a5.spelled, a6.spelled, a7.spelled, a8.spelled, a9.spelled, a10.spelled) (ap (λ z. t.Name q ∷ z) (stored_take (spell.names xs) j10.rest n p q));
         room = a10.room ∙ a9.room ∙ a8.room ∙ a7.room ∙ a6.room ∙ a5.room ∙ a4.room ∙ a3.room ∙ a2.room ∙ a1.room;
         statements = omega (arith, a1.statements, a2.statements, a3.statements, a4.statements, a5.statements, a6.statements, a7.statements, a8.statements, a9.statements, a10.statements);
-        good = record { levelled = tt; within = (a1.good, a4.good); depth = omega arith };
+        good = record { levelled = a4.good; within = a1.good; depth = omega arith };
       }))))))))))
       (λ _.
       found_then _ _ (name j2) _ (name_found j2) (λ p j3 a3.
@@ -366,19 +366,19 @@ module _ (l : Limits) where
   role_at (_ ∷ rest) r n = found_err _ _
 
   -- all but the number of items
-  record ProgramFits (P : SeqProgram) : Type 0 where
-    levelled : LevelledSequence P
-    enums : length P.enums ≤ l.enums
-    each_enum : AllByRecursion (EnumWithin l) P.enums
-    roles : length P.roles ≤ l.roles
-    each_role : AllByRecursion (λ r. length r.decls ≤ l.declarations) P.roles
-    body : ItemsWithin l P.body
-    nesting : items_depth P.body ≤ l.nesting
+  pub record ProgramFits (P : SeqProgram) : Type 0 where
+    pub levelled : LevelledSequence P
+    pub enums : length P.enums ≤ l.enums
+    pub each_enum : AllByRecursion (EnumWithin l) P.enums
+    pub roles : length P.roles ≤ l.roles
+    pub each_role : AllByRecursion (λ r. length r.decls ≤ l.declarations) P.roles
+    pub body : ItemsWithin l P.body
+    pub nesting : items_depth P.body ≤ l.nesting
 
-  abbrev body_items : SeqProgram → ℕ
+  abbrev pub body_items : SeqProgram → ℕ
   body_items P = count_items P.body
 
-  whole_found : (i : Input) → Found (whole l i) (Spelled sequence_spelling body_items ProgramFits i)
+  pub whole_found : (i : Input) → Found (whole l i) (Spelled sequence_spelling body_items ProgramFits i)
   unfolding whole
   whole_found i =
       found_then _ _ (list_of begins_enumeration (enumeration l) l.enums i) _ (plain (spell.all_of spell.enumeration) _ _ (list_of begins_enumeration (enumeration l) l.enums i) i (λ es h. h) (list_found spell.enumeration (λ _. 0) (EnumFits l) begins_enumeration (enumeration l) (enumeration_found l) l.enums i)) (λ es j1 a1.
@@ -401,6 +401,20 @@ module _ (l : Limits) where
         };
       }))))))
 
+-- what is read is within the limits
+pub whole_within : (l : Limits) (i : Input) (P : SeqProgram) (j : Input) → i.statements ≤ l.statements → whole l i ≡ Ok (P, j) → SequenceWithin l P
+whole_within l i P j le h =
+    let a = (whole_found l i).holds P j h in
+    record {
+      enums = a.good.enums;
+      each_enum = a.good.each_enum;
+      roles = a.good.roles;
+      each_role = a.good.each_role;
+      body = a.good.body;
+      nesting = a.good.nesting;
+      statements = omega (arith, a.statements, le);
+    }
+
 -- what is read of a sequential text's tokens is what they denote
 pub sequential_found : (tokens : List Placed) (P : SeqProgram) → sequential sequence tokens ≡ Ok P → DenotesSequence tokens P
 unfolding sequential
@@ -410,13 +424,5 @@ sequential_found tokens P h =
     record {
       spelled = a.spelled ∙ ap (λ l. sequence_spelling P ++ l) e.2 ∙ append-nil (sequence_spelling P);
       levelled = a.good.levelled;
-      within = record {
-        enums = a.good.enums;
-        each_enum = a.good.each_enum;
-        roles = a.good.roles;
-        each_role = a.good.each_role;
-        body = a.good.body;
-        nesting = a.good.nesting;
-        statements = omega (arith, a.statements);
-      };
+      within = whole_within sequence (start tokens sequence.statements) P e.0 (omega arith) e.1;
     }

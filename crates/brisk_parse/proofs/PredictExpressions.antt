@@ -33,7 +33,7 @@ ends (Some (t.Mark mk.LBrace)) = true
 ends (Some (t.Mark mk.Comma)) = true
 ends _ = false
 
-ends_binding : (o : Option Token) → ends o ≡ true → binding o ≡ 0
+pub ends_binding : (o : Option Token) → ends o ≡ true → binding o ≡ 0
 ends_binding (Some (t.Mark mk.Semi)) h = refl
 ends_binding (Some (t.Mark mk.RParen)) h = refl
 ends_binding (Some (t.Mark mk.LBrace)) h = refl
@@ -87,7 +87,7 @@ has_some : (o : Option Op2) → has o ≡ true → (op : Op2) × (o ≡ Some op)
 has_some None h = absurd cc
 has_some (Some op) h = (op, refl)
 
-abbrev operator_token : Op2 → Token
+abbrev pub operator_token : Op2 → Token
 operator_token op = t.Mark (spell.operator2 op)
 
 -- an operator leads on, or the expression ends
@@ -102,7 +102,7 @@ operators_rule which token free go rule e =
     moves_to none (joined spending (λ _. go is.0)) (by_operators which go e) ends i (λ m r n l g. let same = ap which g ∙ is.1 in rw same refl)
     (join_shape none any ends spending (λ _. go is.0) i (spend i) ((spend_gate (operator_token is.0)).opens i (token i.rest is.0 is.1)) (λ _. rule is.0)))
 
-operator_first : (l : Level) (k : List Token) (op : Op2) → operator l (first k) ≡ Some op → first k ≡ Some (operator_token op)
+pub operator_first : (l : Level) (k : List Token) (op : Op2) → operator l (first k) ≡ Some op → first k ≡ Some (operator_token op)
 operator_first l k op h = ap first (operator_found l k op h).spelled
 
 -- ---- chains
@@ -178,7 +178,7 @@ chain_item l n item =
     item_same begins_expression (joined (operands l n) (λ e. tails l (operands l n) item n e)) (chains l n) ends (λ m i. sym (chain_is l (plus n m) (unary (plus n m)) i))
     (item_then begins_expression (operands l n) ends (λ e. tails l (operands l n) item n e) ends item (λ e. tail_rule l (operands l n) item n e))
 
-comparison_first : (k : List Token) (op : Op2) → comparison_operator (first k) ≡ Some op → first k ≡ Some (operator_token op)
+pub comparison_first : (k : List Token) (op : Op2) → comparison_operator (first k) ≡ Some op → first k ≡ Some (operator_token op)
 comparison_first k op h = ap first (comparison_found k op h).spelled
 
 comparison_item : (n : ℕ) → Item begins_expression (chains level.Sum n) ends → Item begins_expression (operands level.And n) ends

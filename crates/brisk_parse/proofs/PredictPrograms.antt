@@ -16,7 +16,8 @@ use Rattle.brisk_parse.specs.Reading.{expect, name, number, listed, separated, b
 use Rattle.brisk_parse.specs.Statements.{begins_statement}
 use Rattle.brisk_parse.proofs.Predictive.{Follow, any, none, Rule, joined, join_shape, then_rule, pure_rule, value_rule, moves_to, choice_rule, Entry, Item, item_rule, item_of}
 use Rattle.brisk_parse.proofs.PredictLists.{seen, free, free_gate, token_entry, expect_rule, name_item, name_rule, comma, separated_rule, listed_rule, many_rule}
-use Rattle.brisk_parse.proofs.PredictStatements.{slack, left_brace, right_brace, right_paren, to_any, only, block_item, code_rule}
+use Rattle.brisk_parse.proofs.PredictBlocks.{left_brace, right_brace}
+use Rattle.brisk_parse.proofs.PredictStatements.{slack, right_paren, to_any, only, block_item, code_rule}
 
 abbrev semi : Token
 semi = t.Mark mk.Semi
@@ -63,7 +64,7 @@ number_rule : Rule any (λ m. number) any
 number_rule = item_rule begins_number (λ m. number) any (item_of begins_number (λ m. number) any number_entry refl (λ m r n k h. number_refuses r n k h) (t.Num 0) refl) any (t.Num 0) refl refl
 
 -- a word that may be left out
-flag_rule : (k : Token) (S : Follow) → ((o : Option Token) → S o ≡ true → is_token k o ≡ false) → Rule any (λ m. flag k) S
+pub flag_rule : (k : Token) (S : Follow) → ((o : Option Token) → S o ≡ true → is_token k o ≡ false) → Rule any (λ m. flag k) S
 unfolding flag
 flag_rule k S stop =
     choice_rule any S (is_token k) (λ m. flag k) false (λ m r n l h. rw h refl) stop (to_any S)
@@ -135,7 +136,7 @@ declaration_entry (t.Word w.KwVar) h = record { gate = free; is_gate = free_gate
 declaration_entry (t.Word w.KwInput) h = record { gate = free; is_gate = free_gate (t.Word w.KwInput); more = λ m. input; rule = input_rule; is = λ m r n k. refl }
 declaration_entry _ h = absurd cc
 
-declaration_item : Item begins_declaration (λ m. declaration) any
+pub declaration_item : Item begins_declaration (λ m. declaration) any
 declaration_item = item_of begins_declaration (λ m. declaration) any declaration_entry refl (λ m r n k h. declaration_refuses r n k h) (t.Word w.KwVar) refl
 
 -- what may follow the declarations of a role
@@ -208,7 +209,7 @@ module _ (l : Limits) where
   enumeration_refuses m r n (t.Word w.KwEnum ∷ k) h = absurd cc
   enumeration_refuses m r n (_ ∷ k) h = refl
 
-  enumeration_item : Item begins_enumeration (λ m. enumeration (slack l m)) any
+  pub enumeration_item : Item begins_enumeration (λ m. enumeration (slack l m)) any
   enumeration_item = item_of begins_enumeration (λ m. enumeration (slack l m)) any enumeration_entry refl enumeration_refuses (t.Word w.KwEnum) refl
 
   kinds_rule : Rule any (λ m. listed begins_kind kind (slack l m).kinds) (is_token right_paren)

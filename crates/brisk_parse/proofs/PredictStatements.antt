@@ -1,5 +1,5 @@
 -- Statements and blocks predict.
-use Rattle.std.proofs.Common.{◌≡◌, inl, ℕ, zero, suc, ◌≤◌, Bool, true, false, List, [], ◌∷◌, length, drop, if◌then◌else◌, Option, Some, None, Ok, Err, refl, sym, ap, subst, ◌∙◌, arith}
+use Rattle.std.proofs.Common.{◌≡◌, ℕ, zero, suc, Bool, true, false, List, [], ◌∷◌, length, if◌then◌else◌, Option, Some, Ok, Err, refl, ap, ◌∙◌}
 use Rattle.brisk_values.specs.Names.{Name}
 use Rattle.brisk_lex.specs.declared.token.Mark.TheVariants as mk
 use Rattle.brisk_lex.specs.declared.token.Word.TheVariants as w
@@ -7,15 +7,17 @@ use Rattle.brisk_lex.specs.declared.token.Token.{Token}
 use Rattle.brisk_lex.specs.declared.token.Token.TheVariants as t
 use Rattle.brisk_syntax.specs.declared.tree.Who.TheVariants as who
 use Rattle.brisk_syntax.specs.Syntax.{Expression, Statement, Assign, Send, Recv, RecvAny, If, IfElse, While, For, Repeat, Code, done, ◌⨾◌}
-use Rattle.brisk_parse.specs.declared.fault.Stop.TheVariants.{Syntax, TooDeep}
+use Rattle.brisk_parse.specs.declared.fault.Stop.TheVariants.{Syntax}
 use Rattle.brisk_parse.specs.Input.{Input, at, first, after, is_token, sees}
 use Rattle.brisk_parse.specs.Limits.{Limits}
 use Rattle.brisk_parse.specs.Outcomes.{Parser, and_then}
 use Rattle.brisk_parse.specs.Reading.{expect, name, count, many, begins_name}
 use Rattle.brisk_parse.specs.Expressions.{begins_expression}
 use Rattle.brisk_parse.specs.Statements.{names, expressions, begins_statement, assign, send, receive_any, receive_named, receive, otherwise, choice, while_loop, for_loop, repeat_loop, statement_by, statement, statements, block}
-use Rattle.brisk_parse.proofs.Predictive.{Follow, any, none, Fits, plus, Family, Completes, Shape, Rule, joined, join_shape, then_rule, pure_rule, value_rule, first_is, moves_to, choice_rule, Entry, Item, item_rule, item_of, plus_more}
+use Rattle.brisk_parse.proofs.Predictive.{Follow, any, none, plus, Family, Rule, joined, join_shape, then_rule, pure_rule, moves_to, choice_rule, Entry, Item, item_rule, item_of}
 use Rattle.brisk_parse.proofs.PredictLists.{seen, free, free_gate, counting, count_gate, expect_rule, name_item, name_rule, comma, listed_rule, many_rule}
+use Rattle.brisk_parse.proofs.PredictBlocks as blocks_predict
+use Rattle.brisk_parse.proofs.PredictBlocks.{left_brace, right_brace}
 use Rattle.brisk_parse.proofs.PredictExpressions.{ends, wholes, expression_item}
 
 -- limits that are greater by m
@@ -32,12 +34,6 @@ slack l m = record {
   statements = plus l.statements m;
   nesting = plus l.nesting m;
 }
-
-abbrev pub left_brace : Token
-left_brace = t.Mark mk.LBrace
-
-abbrev pub right_brace : Token
-right_brace = t.Mark mk.RBrace
 
 abbrev pub right_paren : Token
 right_paren = t.Mark mk.RParen
@@ -59,17 +55,17 @@ pub only : (u : Token) (f : Follow) (v : Bool) → f (Some u) ≡ v → (o : Opt
 only u f v e o h = ap f (seen u o h) ∙ e
 
 module _ (l : Limits) where
-  abbrev whole_expression : Family Expression
+  abbrev pub whole_expression : Family Expression
   whole_expression = wholes l.tokens
 
-  expression_rule : Rule any whole_expression ends
+  pub expression_rule : Rule any whole_expression ends
   expression_rule = item_rule begins_expression whole_expression ends (expression_item l.tokens) any (t.Num 0) refl refl
 
-  names_rule : Rule any (λ m. names (slack l m)) (is_token right_paren)
+  pub names_rule : Rule any (λ m. names (slack l m)) (is_token right_paren)
   names_rule =
       listed_rule begins_name (λ m. name) any name_item (is_token right_paren) (only right_paren (is_token comma) false refl) (to_any (is_token right_paren)) refl refl any l.places (only right_paren begins_name false refl) (to_any (is_token right_paren))
 
-  expressions_rule : Rule any (λ m. expressions (slack l m)) (is_token right_paren)
+  pub expressions_rule : Rule any (λ m. expressions (slack l m)) (is_token right_paren)
   expressions_rule =
       listed_rule begins_expression whole_expression ends (expression_item l.tokens) (is_token right_paren) (only right_paren (is_token comma) false refl) (only right_paren ends true refl) refl refl any l.places (only right_paren begins_expression false refl) (to_any (is_token right_paren))
 
@@ -200,60 +196,12 @@ module _ (l : Limits) where
     code_rule E h =
         many_rule begins_statement ones after_statement statement_item (is_token right_brace) done (λ s c. s ⨾ c) (only right_brace begins_statement false refl) (only right_brace after_statement true refl) refl E (only right_brace E true h) l.statements
 
-    body_rule : Rule any (joined (λ m. statements (slack l m) (blocks d m)) (λ c. joined (λ m. expect right_brace) (λ _ m i. Ok (c, i)))) any
-    body_rule = then_rule (code_rule any refl) (λ c. then_rule (expect_rule (is_token right_brace) right_brace refl) (λ _. value_rule any c))
-
   -- ---- blocks
 
-  block_empty : (m p r n : ℕ) (k : List Token) → 1 ≤ p → block (slack l m) p (at (left_brace ∷ right_brace ∷ k) r n) ≡ Ok (done, at k r n)
-  unfolding block expect many
-  block_empty m zero r n k le = absurd (omega (arith, le))
-  block_empty m (suc p) r n k le = elim (plus l.statements m) as (λ f. and_then (many begins_statement (statement (slack l m) (block (slack l m) p)) done (λ s c. s ⨾ c) f (at (right_brace ∷ k) r n)) (λ c i. and_then (expect right_brace i) (λ _ i. Ok (c, i))) ≡ Ok (done, at k r n)) [ zero ↦ refl | suc f ↦ refl ]
-
-  block_passes : (m r n : ℕ) (k : List Token) → is_token left_brace (first k) ≡ true → block (slack l m) zero (at k r n) ≡ Err (TooDeep (length k))
-  unfolding block
-  block_passes m r n k h = rw h refl
-
-  block_refuses : (m p r n : ℕ) (k : List Token) → is_token left_brace (first k) ≡ false → block (slack l m) p (at k r n) ≡ Err (Syntax (length k))
-  unfolding block expect
-  block_refuses m zero r n k h = rw h refl
-  block_refuses m (suc p) r n k h = rw h refl
-
-  empty_lives : (d : ℕ) (G : List Token → Type 0) → ((k : List Token) → G (left_brace ∷ k)) → Completes G (blocks d) any (left_brace ∷ [])
-  empty_lives d G g = record {
-    more = right_brace ∷ [];
-    value = done;
-    bound = 1;
-    enters = λ k h. g (right_brace ∷ k);
-    reads = λ m r n k le room count h. record { room = r; statements = n; has_room = omega arith; has_statements = omega arith; is = block_empty m (plus d m) r n k (omega (arith, le, plus_more d m)) };
-  }
-
-  empty_completes : (d : ℕ) (u : Token) → is_token left_brace (Some u) ≡ true → Completes (λ l. first l ≡ Some u) (blocks d) any (u ∷ [])
-  empty_completes d u h = let e = seen left_brace (Some u) h in subst (λ (o : Option Token). Completes (λ l. first l ≡ o) (blocks d) any (elim o [ None ↦ [] | Some v ↦ v ∷ [] ])) (sym e) (empty_lives d (λ l. first l ≡ Some left_brace) (λ k. refl))
-
-  block_zero : (i : Input) → is_token left_brace (first i.rest) ≡ true → Shape none (blocks zero) any i (block (slack l 0) zero i)
-  block_zero i h =
-      let e = seen left_brace (first i.rest) h in
-      rw (block_passes 0 i.room i.statements i.rest h) (record {
-        before = [];
-        token = left_brace;
-        rest = drop 1 i.rest;
-        parts = first_is left_brace i.rest e;
-        place = ap length (first_is left_brace i.rest e);
-        again = λ k f. block_passes 0 i.room i.statements k (ap (is_token left_brace) f);
-        viable = empty_lives zero (λ l. Fits none i.rest l) (λ k. inl (sym e));
-      })
-
-  block_entry : (d : ℕ) → Item (is_token left_brace) (blocks d) any → (u : Token) → is_token left_brace (Some u) ≡ true → Entry (blocks (suc d)) any u
-  unfolding block expect
-  block_entry d item u h = record {
-    gate = free;
-    is_gate = free_gate u;
-    more = joined (λ m. statements (slack l m) (blocks d m)) (λ c. joined (λ m. expect right_brace) (λ _ m i. Ok (c, i)));
-    rule = body_rule d item;
-    is = λ m r n k. rw h refl;
-  }
+  code_empty : (m : ℕ) (p : Parser Code) (r n : ℕ) (k : List Token) → statements (slack l m) p (at (right_brace ∷ k) r n) ≡ Ok (done, at (right_brace ∷ k) r n)
+  unfolding many
+  code_empty m p r n k = elim (plus l.statements m) as (λ f. many begins_statement (statement (slack l m) p) done (λ s c. s ⨾ c) f (at (right_brace ∷ k) r n) ≡ Ok (done, at (right_brace ∷ k) r n)) [ zero ↦ refl | suc f ↦ refl ]
 
   pub block_item : (d : ℕ) → Item (is_token left_brace) (blocks d) any
-  block_item zero = record { begun = block_zero; refuses = λ m r n k h. block_refuses m m r n k h; completes = empty_completes zero; token = left_brace; begins_token = refl }
-  block_item (suc d) = item_of (is_token left_brace) (blocks (suc d)) any (block_entry d (block_item d)) refl (λ m r n k h. block_refuses m (suc (plus d m)) r n k h) left_brace refl
+  unfolding block
+  block_item d = blocks_predict.block_item done (λ m. block (slack l m)) (λ m. statements (slack l m)) (λ m i. refl) (λ m d i. refl) code_empty (λ d item. code_rule d item any refl) d

@@ -3,7 +3,7 @@ use Rattle.std.specs.Prelude.{◌≡◌, ℕ, ◌-◌, List, Result, Ok, Err}
 use Rattle.brisk_lex.specs.declared.token.Placed.{Placed}
 use Rattle.brisk_syntax.specs.declared.program.Program.{Program}
 use Rattle.brisk_seq.specs.declared.tree.SeqProgram.{SeqProgram}
-use Rattle.brisk_parse.specs.Faults.{IsFault}
+use Rattle.brisk_parse.specs.Faults.{programs, sequences, IsFault}
 use Rattle.brisk_parse.specs.Input.{tokens_of}
 use Rattle.brisk_parse.specs.SequenceSpelling.{DenotesSequence}
 use Rattle.brisk_parse.specs.Within.{Denotes}
@@ -43,10 +43,10 @@ Read total read result = result ≡ faulted total read
 abbrev pub IsAnswer : List Placed → Result Program ParseFault → Type 0
 IsAnswer tokens (Ok P) = Denotes tokens P
 IsAnswer tokens (Err NoMemory) = Unit {0}
-IsAnswer tokens (Err fault) = IsFault (tokens_of tokens) fault × ((P : Program) → Denotes tokens P → ⊥)
+IsAnswer tokens (Err fault) = IsFault programs (tokens_of tokens) fault × ((P : Program) → Denotes tokens P → ⊥)
 
--- Ok with the sequential program that the tokens denote, a fault where they denote none, or want of memory
+-- Ok with the sequential program that the tokens denote; where they denote none, the first token at fault; or want of memory
 abbrev pub IsSequence : List Placed → Result SeqProgram ParseFault → Type 0
 IsSequence tokens (Ok P) = DenotesSequence tokens P
 IsSequence tokens (Err NoMemory) = Unit {0}
-IsSequence tokens (Err fault) = (P : SeqProgram) → DenotesSequence tokens P → ⊥
+IsSequence tokens (Err fault) = IsFault sequences (tokens_of tokens) fault × ((P : SeqProgram) → DenotesSequence tokens P → ⊥)

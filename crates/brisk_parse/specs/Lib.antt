@@ -3,10 +3,13 @@ pub mod Declarations
 pub mod Expressions
 pub mod Faults
 pub mod Input
+pub mod Laws
 pub mod Levelled
 pub mod Limits
 pub mod Outcomes
+pub mod Passing
 pub mod Reading
+pub mod SequencePassing
 pub mod SequenceSpelling
 pub mod Sequences
 pub mod Spelling

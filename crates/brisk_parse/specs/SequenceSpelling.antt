@@ -50,11 +50,12 @@ sequence_spelling P = all_of enumeration P.enums ++ all_of role P.roles ++ word 
 
 -- ---- levelled
 
+-- all expressions are levelled, and no number of a box is too large
 abbrev mutual
   pub LevelledItem : Item → Type 0
   LevelledItem (Pass q xs p es) = AllByRecursion Levelled es
-  LevelledItem (Fill n p q es) = AllByRecursion Levelled es
-  LevelledItem (Take q xs n p) = Unit {0}
+  LevelledItem (Fill n p q es) = (n ≤ most_box) × AllByRecursion Levelled es
+  LevelledItem (Take q xs n p) = n ≤ most_box
   LevelledItem (If p e a b) = Levelled e × LevelledItems a × LevelledItems b
   LevelledItem (While p e b) = Levelled e × LevelledItems b
   LevelledItem (For s b) = LevelledItems b
@@ -94,12 +95,12 @@ abbrev mutual
   count_items nothing = 0
   count_items (q ⨟ b) = items_in q + count_items b
 
--- each expression is short, no list has too many places, and no number of a box is too large
+-- each expression is short, and no list has too many places
 abbrev mutual
   pub ItemWithin : Limits → Item → Type 0
   ItemWithin l (Pass q xs p es) = (length xs ≤ 1 + l.places) × (length es ≤ 1 + l.places) × AllByRecursion (Short l) es
-  ItemWithin l (Fill n p q es) = (n ≤ most_box) × (length es ≤ 1 + l.places) × AllByRecursion (Short l) es
-  ItemWithin l (Take q xs n p) = (length xs ≤ 1 + l.places) × (n ≤ most_box)
+  ItemWithin l (Fill n p q es) = (length es ≤ 1 + l.places) × AllByRecursion (Short l) es
+  ItemWithin l (Take q xs n p) = length xs ≤ 1 + l.places
   ItemWithin l (If p e a b) = Short l e × ItemsWithin l a × ItemsWithin l b
   ItemWithin l (While p e b) = Short l e × ItemsWithin l b
   ItemWithin l (For s b) = ItemsWithin l b

@@ -1,191 +1,199 @@
+//! Programs: each construct, and the token at which a text that is nearly one is refused.
 use super::*;
-use brisk_lex::{Mark, Placed, Token, Word};
-use brisk_values::Name;
+use brisk_lex::tokens;
+use brisk_syntax::{Expr, Program, Stmt, same_expr};
+use brisk_values::{Name, Op1, Op2};
 use std::alloc::Global;
 use std::process::Abort;
 use std::test::Fail;
 
-fn x() -> Token {
-    Token::Name(Name::new(b"x").unwrap())
+pub fn name(bytes: &[u8]) -> Result<Name, Fail> {
+    Ok(Name::new(bytes).ok_or("no name")?)
 }
 
-fn y() -> Token {
-    Token::Name(Name::new(b"y").unwrap())
+fn parsed(rt: &impl Abort, alloc: Global, source: &[u8]) -> Result<Program, Fail> {
+    assert!(rt; source.len() <= 16_777_216);
+    let tokens = tokens(alloc, source)?;
+    Ok(program(alloc, &tokens)?)
 }
 
-fn word(word: Word) -> Token {
-    Token::Word(word)
-}
-
-fn mark(mark: Mark) -> Token {
-    Token::Mark(mark)
-}
-
-fn one() -> Token {
-    Token::Num(1)
-}
-
-fn placed(alloc: Global, tokens: &[Token]) -> Result<Vec<Placed>, Fail> {
-    let mut placed = Vec::new(alloc);
-    for token in tokens {
-        placed.push(Placed {
-            token: *token,
-            at: 0,
-        })?;
-    }
-    Ok(placed)
-}
-
-// The fault of a program's tokens, if they have one.
-fn fault(rt: &impl Abort, alloc: Global, tokens: &[Token]) -> Result<Option<ParseFault>, Fail> {
-    let placed = placed(alloc, tokens)?;
-    assert!(rt; placed.len() <= 1000);
-    match program(alloc, placed.as_slice()) {
-        Ok(_) => Ok(None),
-        Err(fault) => Ok(Some(fault)),
-    }
-}
-
-// The fault of a sequential program's tokens, if they have one.
-fn fault_of_sequence(
-    rt: &impl Abort,
-    alloc: Global,
-    tokens: &[Token],
-) -> Result<Option<ParseFault>, Fail> {
-    let placed = placed(alloc, tokens)?;
-    assert!(rt; placed.len() <= 1000);
-    match sequential(alloc, placed.as_slice()) {
+// The fault of a source, if it has one.
+pub fn fault(rt: &impl Abort, alloc: Global, source: &[u8]) -> Result<Option<ParseFault>, Fail> {
+    assert!(rt; source.len() <= 16_777_216);
+    let tokens = tokens(alloc, source)?;
+    match program(alloc, &tokens) {
         Ok(_) => Ok(None),
         Err(fault) => Ok(Some(fault)),
     }
 }
 
 #[test]
-fn a_role_is_read(rt: HostRuntime) -> Result<(), Fail> {
-    let tokens = [
-        word(Word::KwChannel),
-        x(),
-        mark(Mark::LParen),
-        word(Word::KwInt),
-        mark(Mark::RParen),
-        word(Word::KwLoose),
-        mark(Mark::Semi),
-        word(Word::KwOne),
-        y(),
-        mark(Mark::LBrace),
-        x(),
-        mark(Mark::Assign),
-        mark(Mark::LParen),
-        one(),
-        mark(Mark::RParen),
-        mark(Mark::Minus),
-        one(),
-        mark(Mark::Semi),
-        mark(Mark::RBrace),
+fn each_declaration_is_read(rt: HostRuntime) -> Result<(), Fail> {
+    let sources: [&[u8]; 9] = [
+        b"",
+        b"enum E{A}enum F{A,B}",
+        b"channel C();channel D(int,bool,E);",
+        b"channel C(int)loose;channel D()loose;",
+        b"one A{}many B{}many Cs nonempty{}",
+        b"enum E{A}channel C();one A{}",
+        b"one A{input x:int;input y:bool;input z:E;}",
+        b"one A{var x:int=1;var y:int=-1;var z:bool=true;var w:bool=false;var v:E=E.A;}",
+        b"one A{var x:int=1;x:=2;}",
     ];
-    assert_eq!(rt; fault(&rt, rt.alloc(), tokens.as_slice())?, None);
-    Ok(())
-}
-
-#[test]
-fn the_first_token_at_fault_is_told(rt: HostRuntime) -> Result<(), Fail> {
-    let unclosed = [word(Word::KwOne), x(), mark(Mark::LBrace)];
-    assert_eq!(rt;
-        fault(&rt, rt.alloc(), unclosed.as_slice())?,
-        Some(ParseFault::SyntaxFault(3))
-    );
-    let reserved = [word(Word::KwOne), word(Word::KwLoose), mark(Mark::LBrace)];
-    assert_eq!(rt;
-        fault(&rt, rt.alloc(), reserved.as_slice())?,
-        Some(ParseFault::SyntaxFault(1))
-    );
-    let compared_twice = [
-        word(Word::KwOne),
-        x(),
-        mark(Mark::LBrace),
-        x(),
-        mark(Mark::Assign),
-        one(),
-        mark(Mark::Less),
-        one(),
-        mark(Mark::Less),
-        one(),
-        mark(Mark::Semi),
-        mark(Mark::RBrace),
-    ];
-    assert_eq!(rt;
-        fault(&rt, rt.alloc(), compared_twice.as_slice())?,
-        Some(ParseFault::SyntaxFault(8))
-    );
-    Ok(())
-}
-
-#[test]
-fn the_block_past_the_limit_is_told(rt: HostRuntime) -> Result<(), Fail> {
-    for (nested, want) in [
-        (63, ParseFault::SyntaxFault(192)),
-        (64, ParseFault::TooDeep(194)),
-    ] {
-        let mut tokens = Vec::new(rt.alloc());
-        tokens.push(word(Word::KwOne))?;
-        tokens.push(x())?;
-        tokens.push(mark(Mark::LBrace))?;
-        for _block in 0..nested {
-            tokens.push(word(Word::KwIf))?;
-            tokens.push(word(Word::KwTrue))?;
-            tokens.push(mark(Mark::LBrace))?;
-        }
-        assert_eq!(rt; fault(&rt, rt.alloc(), tokens.as_slice())?, Some(want));
+    for source in sources {
+        assert_eq!(rt; fault(&rt, rt.alloc(), source)?, None);
     }
     Ok(())
 }
 
 #[test]
-fn the_token_past_an_expression_is_told(rt: HostRuntime) -> Result<(), Fail> {
-    for (operators, want) in [
-        (127, ParseFault::SyntaxFault(260)),
-        (128, ParseFault::TooMany(261)),
-    ] {
-        let mut tokens = Vec::new(rt.alloc());
-        tokens.push(word(Word::KwOne))?;
-        tokens.push(x())?;
-        tokens.push(mark(Mark::LBrace))?;
-        tokens.push(x())?;
-        tokens.push(mark(Mark::Assign))?;
-        for _operand in 0..operators {
-            tokens.push(one())?;
-            tokens.push(mark(Mark::Plus))?;
-        }
-        tokens.push(one())?;
-        assert_eq!(rt; fault(&rt, rt.alloc(), tokens.as_slice())?, Some(want));
+fn each_statement_is_read(rt: HostRuntime) -> Result<(), Fail> {
+    let sources: [&[u8]; 9] = [
+        b"one A{x:=1;}",
+        b"one A{send C()to B;send C(1)to B;send C(1,x)to B;}",
+        b"one A{recv C()from B;recv C(x)from B;recv C(x,y)from B;}",
+        b"one A{recv C(x)from any w in Ws{x:=1;}}",
+        b"one A{if a{}if a{x:=1;}}",
+        b"one A{if a{}else{}if a{x:=1;}else{y:=1;}}",
+        b"one A{while a{x:=1;}}",
+        b"one A{for w in Ws{send C()to w;}}",
+        b"one A{repeat Ws{repeat Vs{}}}",
+    ];
+    for source in sources {
+        assert_eq!(rt; fault(&rt, rt.alloc(), source)?, None);
     }
     Ok(())
 }
 
 #[test]
-fn the_processes_of_a_box_agree(rt: HostRuntime) -> Result<(), Fail> {
-    for (process, want) in [(x(), None), (y(), Some(ParseFault::SyntaxFault(9)))] {
-        let tokens = [
-            word(Word::KwBegin),
-            word(Word::KwBox),
-            one(),
-            mark(Mark::LParen),
-            x(),
-            word(Word::KwTo),
-            y(),
-            mark(Mark::RParen),
-            mark(Mark::Assign),
-            process,
-            mark(Mark::Dot),
-            mark(Mark::LParen),
-            mark(Mark::RParen),
-            mark(Mark::Semi),
-            word(Word::KwEnd),
-        ];
+fn each_expression_is_read(rt: HostRuntime) -> Result<(), Fail> {
+    let sources: [&[u8]; 9] = [
+        b"one A{x:=1;x:=true;x:=false;x:=y;x:=E.T;x:=#Ws;x:=(1);}",
+        b"one A{x:=a||b||c;x:=a&&b&&c;x:=a||b&&c;}",
+        b"one A{x:=a==b;x:=a!=b;x:=a<b;x:=a<=b;x:=a>b;x:=a>=b;}",
+        b"one A{x:=a+b+c;x:=a-b-c;x:=a*b*c;x:=a+b*c-d;}",
+        b"one A{x:=!a;x:=!!a;x:=-a;x:=- -a;x:=-!a;x:=!-a;}",
+        b"one A{x:=a- -b;x:=a*-b;x:=!a&&!b;}",
+        b"one A{x:=(a<b)==(c<d);}",
+        b"one A{x:=((1));}",
+        b"one A{x:=a+b<c*d&&e;}",
+    ];
+    for source in sources {
+        assert_eq!(rt; fault(&rt, rt.alloc(), source)?, None);
+    }
+    Ok(())
+}
+
+#[test]
+fn the_first_wrong_token_of_a_declaration_is_told(rt: HostRuntime) -> Result<(), Fail> {
+    let cases: [(&[u8], u32); 12] = [
+        (b"enum E{}", 3),
+        (b"enum E{A,}", 5),
+        (b"channel loose();", 1),
+        (b"channel C(int,)", 5),
+        (b"channel C(int)loose", 6),
+        (b"channel C()C;", 4),
+        (b"one loose{}", 1),
+        (b"one A nonempty{}", 2),
+        (b"one A{}channel C();", 4),
+        (b"channel C();enum E{A}", 5),
+        (b"one A{var x:int=--1;}", 9),
+        (b"one A{x:=1;var y:int=1;}", 7),
+    ];
+    for (source, token) in cases {
         assert_eq!(rt;
-            fault_of_sequence(&rt, rt.alloc(), tokens.as_slice())?,
-            want
+            fault(&rt, rt.alloc(), source)?,
+            Some(ParseFault::SyntaxFault(token))
         );
     }
+    Ok(())
+}
+
+#[test]
+fn the_first_wrong_token_of_a_statement_is_told(rt: HostRuntime) -> Result<(), Fail> {
+    let cases: [(&[u8], u32); 12] = [
+        (b"one A{", 3),
+        (b"one A{;}", 3),
+        (b"one A{x=1;}", 4),
+        (b"one A{loose:=1;}", 3),
+        (b"one A{send C(x,)to B;}", 8),
+        (b"one A{recv C(1)from B;}", 6),
+        (b"one A{recv C()from any w of Ws{}}", 10),
+        (b"one A{if a{}else if b{}}", 8),
+        (b"one A{else{}}", 3),
+        (b"one A{for w Ws{}}", 5),
+        (b"one A{repeat{}}", 4),
+        (b"one A{}}", 4),
+    ];
+    for (source, token) in cases {
+        assert_eq!(rt;
+            fault(&rt, rt.alloc(), source)?,
+            Some(ParseFault::SyntaxFault(token))
+        );
+    }
+    Ok(())
+}
+
+#[test]
+fn the_first_wrong_token_of_an_expression_is_told(rt: HostRuntime) -> Result<(), Fail> {
+    let cases: [(&[u8], u32); 10] = [
+        (b"one A{x:=;}", 5),
+        (b"one A{x:=a<b<c;}", 8),
+        (b"one A{x:=a==b!=c;}", 8),
+        (b"one A{x:=a+*b;}", 7),
+        (b"one A{x:=a!b;}", 6),
+        (b"one A{x:=a.b.c;}", 8),
+        (b"one A{x:=#1;}", 6),
+        (b"one A{x:=();}", 6),
+        (b"one A{x:=(a;}", 7),
+        (b"one A{x:=a)}", 6),
+    ];
+    for (source, token) in cases {
+        assert_eq!(rt;
+            fault(&rt, rt.alloc(), source)?,
+            Some(ParseFault::SyntaxFault(token))
+        );
+    }
+    Ok(())
+}
+
+// The expression that the one statement of a source assigns.
+fn assigned(program: &Program) -> Result<&Expr, Fail> {
+    let role = program.roles.items.first().ok_or("no role")?;
+    match role.code.items.first().ok_or("no statement")? {
+        Stmt::Assign(_, e) => Ok(e),
+        _ => Err("no assignment")?,
+    }
+}
+
+fn binary(alloc: Global, op: Op2, e: Expr, f: Expr) -> Result<Expr, Fail> {
+    Ok(Expr::Bin(op, Box::new(alloc, e)?, Box::new(alloc, f)?))
+}
+
+#[test]
+fn operators_group_to_the_left(rt: HostRuntime) -> Result<(), Fail> {
+    let program = parsed(&rt, rt.alloc(), b"one A{x:=1-2-3;}")?;
+    let first = binary(rt.alloc(), Op2::Sub, Expr::Num(1), Expr::Num(2))?;
+    let want = binary(rt.alloc(), Op2::Sub, first, Expr::Num(3))?;
+    assert!(rt; same_expr(assigned(&program)?, &want));
+    Ok(())
+}
+
+#[test]
+fn brackets_are_kept(rt: HostRuntime) -> Result<(), Fail> {
+    let program = parsed(&rt, rt.alloc(), b"one A{x:=1-(2-3);}")?;
+    let inner = binary(rt.alloc(), Op2::Sub, Expr::Num(2), Expr::Num(3))?;
+    let bracket = Expr::Paren(Box::new(rt.alloc(), inner)?);
+    let want = binary(rt.alloc(), Op2::Sub, Expr::Num(1), bracket)?;
+    assert!(rt; same_expr(assigned(&program)?, &want));
+    Ok(())
+}
+
+#[test]
+fn a_sign_belongs_to_its_operand(rt: HostRuntime) -> Result<(), Fail> {
+    let program = parsed(&rt, rt.alloc(), b"one A{x:=1- -2;}")?;
+    let negative = Expr::Un(Op1::Neg, Box::new(rt.alloc(), Expr::Num(2))?);
+    let want = binary(rt.alloc(), Op2::Sub, Expr::Num(1), negative)?;
+    assert!(rt; same_expr(assigned(&program)?, &want));
     Ok(())
 }

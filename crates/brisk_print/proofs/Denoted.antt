@@ -10,13 +10,15 @@ use Rattle.brisk_syntax.specs.declared.tree.Who.TheVariants as who
 use Rattle.brisk_syntax.specs.Roles.{RoleText}
 use Rattle.brisk_syntax.specs.Syntax.{Statement, Assign, Send, Recv, RecvAny, If, IfElse, While, For, Repeat, Code, done, ◌⨾◌}
 use Rattle.brisk_parse.specs.Levelled.{IsPlain, LevelledStatement, LevelledCode, LevelledRole}
+use Rattle.brisk_parse.specs.SequenceSpelling.{sequence_spelling, LevelledOutline, DenotesSequence}
 use Rattle.brisk_parse.specs.Spelling.{spelling}
 use Rattle.brisk_parse.specs.Within.{Denotes}
-use Rattle.brisk_parse.proofs.Denoted.{denotes_one}
-use Rattle.brisk_print.specs.Laws.{LayoutDenotes, LayoutsDiffer}
+use Rattle.brisk_parse.proofs.Denoted.{denotes_one, denotes_one_sequence}
+use Rattle.brisk_print.specs.Laws.{LayoutDenotes, LayoutsDiffer, SequenceLayoutDenotes, SequenceLayoutsDiffer}
 use Rattle.brisk_print.specs.Layout as layout
 use Rattle.brisk_print.specs.Legal.{IsNamed, NamesPartners, NamesAll}
 use Rattle.brisk_print.proofs.ReadPrograms.{layout_is_spelled}
+use Rattle.brisk_print.proofs.ReadSequential.{sequential_is_spelled}
 
 -- ---- in levelled trees no partner is a process
 
@@ -65,3 +67,21 @@ layouts_differ P Q p q e =
     let b = layout_denotes Q q in
     let same : a.0 ≡ b.0 = same_ok a.0 b.0 (sym a.1 ∙ ap tokens e ∙ b.1) in
     denotes_one b.0 P Q (subst (λ (ts : List Placed). Denotes ts P) same a.2) b.2
+
+-- ---- sequential programs
+
+roles_empty : (rs : List RoleText) → AllByRecursion LevelledOutline rs → AllByRecursion (λ r. r.code ≡ done) rs
+roles_empty [] h = tt
+roles_empty (r ∷ rs) h = (h.0.1, roles_empty rs h.1)
+
+pub sequence_layout_denotes : SequenceLayoutDenotes
+sequence_layout_denotes Q h =
+    let read = placed_tokens (tokens (layout.sequential Q)) (sequence_spelling Q) (sequential_is_spelled Q (record { legal = h.legal; empty = roles_empty Q.roles h.levelled.roles })) in
+    (read.0, read.1, record { spelled = read.2; levelled = h.levelled; within = h.within })
+
+pub sequence_layouts_differ : SequenceLayoutsDiffer
+sequence_layouts_differ Q R q r e =
+    let a = sequence_layout_denotes Q q in
+    let b = sequence_layout_denotes R r in
+    let same : a.0 ≡ b.0 = same_ok a.0 b.0 (sym a.1 ∙ ap tokens e ∙ b.1) in
+    denotes_one_sequence b.0 Q R (subst (λ (ts : List Placed). DenotesSequence ts Q) same a.2) b.2

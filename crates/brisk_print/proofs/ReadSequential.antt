@@ -1,22 +1,26 @@
 -- How the layouts of sequential programs read.
-use Rattle.std.proofs.Common.{◌≡◌, refl, Bool, false, ℕ, List, [], ◌++◌, Ok}
+use Rattle.std.proofs.Common.{◌≡◌, refl, sym, ap, Bool, false, ℕ, List, [], ◌++◌, append-nil, Ok}
+use Rattle.std.specs.List.{AllByRecursion}
 use Rattle.std.specs.Prelude.{codes}
 use Rattle.brisk_values.specs.Names.{Name}
+use Rattle.brisk_lex.specs.declared.token.Mark.TheVariants as m
 use Rattle.brisk_lex.specs.declared.token.Word.TheVariants as w
 use Rattle.brisk_lex.specs.declared.token.Token.{Token}
 use Rattle.brisk_lex.specs.Tokens.{tokens, tokens_of}
 use Rattle.brisk_syntax.specs.Roles.{RoleText}
+use Rattle.brisk_syntax.specs.Syntax.{Code, done}
 use Rattle.brisk_seq.specs.declared.tree.SeqProgram.{SeqProgram}
 use Rattle.brisk_seq.specs.Items as items
 use Rattle.brisk_seq.specs.Items.{Item, Items, nothing, ◌⨟◌}
+use Rattle.brisk_parse.specs.SequenceSpelling as seq
+use Rattle.brisk_parse.specs.Spelling as spell
 use Rattle.brisk_print.specs.Layout as layout
-use Rattle.brisk_print.specs.Legal.{AllLegal}
-use Rattle.brisk_print.specs.SeqSpelling as seq
-use Rattle.brisk_print.proofs.Texts.{Reads, nothing as no_text, space, newline, spaced_word, word, name, number, ◌then◌, ◌and◌, ◌joint◌, ends_line, joined_read, any, whole_read}
+use Rattle.brisk_print.specs.Legal.{IsWritableSequence}
+use Rattle.brisk_print.proofs.Texts.{Reads, nothing as no_text, space, newline, spaced_word, word, name, number, ◌then◌, ◌and◌, ◌joint◌, ends_line, same_tokens, joined_read, whole_read}
 use Rattle.brisk_print.proofs.ReadExpressions.{dot, left, right, semi, expression_reads, expressions_read, names_read}
 use Rattle.brisk_print.proofs.ReadPrograms.{assign, closing, indent, line_reads, lone, block_reads, blocks_read, heading_reads, declarations_read, enumerations_read}
 
-at_reads : {o : Bool} {inside : List ℕ} {ts : List Token} (p : Name) → Reads o inside ts → Reads false (layout.at p inside) (seq.at p ts)
+at_reads : {o : Bool} {inside : List ℕ} {ts : List Token} (p : Name) → Reads o inside ts → Reads false (layout.at p inside) (seq.at_process p ts)
 at_reads p x = name p and (dot joint left.reads) then x and right
 
 box_reads : (n : ℕ) (from to : Name) → Reads false (layout.box n from to) (seq.box n from to)
@@ -38,14 +42,18 @@ mutual
   items_read margin blank nothing = no_text false
   items_read margin blank (q ⨟ b) = item_reads margin blank q then items_read margin blank b
 
-declared_role_reads : (r : RoleText) → Reads false (layout.declared_role r) (seq.declared_role r)
-declared_role_reads r = heading_reads r then declarations_read r.decls then ends_line closing
+-- code that is empty has no tokens
+no_code : (ts us : List Token) (c : Code) → c ≡ done → ts ++ us ≡ ts ++ spell.code c ++ us
+no_code ts us c h = rw h (ap (λ z. z ++ us) (sym (append-nil ts)))
 
-sequential_reads : (Q : SeqProgram) → Reads false (layout.sequential Q) (seq.seq_spelling Q)
-sequential_reads Q =
-    enumerations_read Q.enums then joined_read layout.declared_role seq.declared_role (λ r _. declared_role_reads r) Q.roles (any Q.roles)
+declared_role_reads : (r : RoleText) → r.code ≡ done → Reads false (layout.declared_role r) (spell.role r)
+declared_role_reads r h = same_tokens (no_code (spell.heading r ++ spell.mark m.LBrace ++ spell.all_of spell.declaration r.decls) (spell.mark m.RBrace) r.code h) (heading_reads r then declarations_read r.decls then ends_line closing)
+
+sequential_reads : (Q : SeqProgram) → AllByRecursion (λ r. r.code ≡ done) Q.roles → Reads false (layout.sequential Q) (seq.sequence_spelling Q)
+sequential_reads Q h =
+    enumerations_read Q.enums then joined_read layout.declared_role spell.role declared_role_reads Q.roles h
     then (word w.KwBegin refl and newline) then items_read (codes "  ") indent Q.body then (word w.KwEnd refl and newline)
 
 -- the tokens of a sequential program's layout are its spelling
-pub sequential_is_spelled : (Q : SeqProgram) → AllLegal (seq.seq_spelling Q) → tokens_of (tokens (layout.sequential Q)) ≡ Ok (seq.seq_spelling Q)
-sequential_is_spelled Q h = whole_read (layout.sequential Q) (seq.seq_spelling Q) h (sequential_reads Q)
+pub sequential_is_spelled : (Q : SeqProgram) → IsWritableSequence Q → tokens_of (tokens (layout.sequential Q)) ≡ Ok (seq.sequence_spelling Q)
+sequential_is_spelled Q h = whole_read (layout.sequential Q) (seq.sequence_spelling Q) h.legal (sequential_reads Q h.empty)

@@ -1,13 +1,15 @@
 -- What a tree must be like, so that its layout is a text of the language.
-use Rattle.std.specs.Prelude.{◌^◌, ◌≤◌, List}
+use Rattle.std.specs.Prelude.{◌≡◌, ◌^◌, ◌≤◌, List}
 use Rattle.std.specs.List.{AllByRecursion}
 use Rattle.brisk_lex.specs.declared.token.Token.{Token}
 use Rattle.brisk_lex.specs.declared.token.Token.TheVariants as t
 use Rattle.brisk_lex.specs.Spelled.{IsName}
+use Rattle.brisk_seq.specs.declared.tree.SeqProgram.{SeqProgram}
 use Rattle.brisk_syntax.specs.declared.program.Program.{Program}
 use Rattle.brisk_syntax.specs.declared.tree.Who.{Who}
 use Rattle.brisk_syntax.specs.declared.tree.Who.TheVariants as who
 use Rattle.brisk_syntax.specs.Syntax.{Statement, Assign, Send, Recv, RecvAny, If, IfElse, While, For, Repeat, Code, done, ◌⨾◌}
+use Rattle.brisk_parse.specs.SequenceSpelling.{sequence_spelling}
 use Rattle.brisk_parse.specs.Spelling.{spelling}
 
 -- a name is a name of the language, and a number is at most 2^63
@@ -48,3 +50,8 @@ abbrev mutual
 pub record IsWritable (P : Program) : Type 0 where
   pub legal : AllLegal (spelling P)
   pub named : AllByRecursion (λ r. NamesAll r.code) P.roles
+
+-- the sequential program can be written: its names and numbers are as above, and its roles have no code
+pub record IsWritableSequence (Q : SeqProgram) : Type 0 where
+  pub legal : AllLegal (sequence_spelling Q)
+  pub empty : AllByRecursion (λ r. r.code ≡ done) Q.roles

@@ -1,4 +1,3 @@
 pub mod Laws
 pub mod Layout
 pub mod Legal
-pub mod SeqSpelling

@@ -1,5 +1,5 @@
 //! What holds of the layouts.
-ghost use Rattle.brisk_print.specs.Laws.{LayoutDenotes, LayoutIsSpelled, LayoutsDiffer, SeqLayoutIsSpelled};
+ghost use Rattle.brisk_print.specs.Laws.{LayoutDenotes, LayoutIsSpelled, LayoutsDiffer, SequenceLayoutDenotes, SequenceLayoutIsSpelled, SequenceLayoutsDiffer};
 
 /// The tokens of a program's layout are its spelling. So a layout denotes its program, and programs that differ have
 /// layouts that differ.
@@ -9,7 +9,9 @@ pub fn program_layouts()
     ensures differ { LayoutsDiffer }
 {}
 
-/// The tokens of a sequential program's layout are its spelling.
+/// So it is with sequential programs.
 pub fn sequential_layouts()
-    ensures { SeqLayoutIsSpelled }
+    ensures spelled { SequenceLayoutIsSpelled }
+    ensures denotes { SequenceLayoutDenotes }
+    ensures differ { SequenceLayoutsDiffer }
 {}

@@ -1,0 +1,143 @@
+//! Sequential programs: each construct, and the token at which a text that is nearly one is refused.
+use super::*;
+use crate::tests::name;
+use brisk_lex::tokens;
+use brisk_seq::{Fill, Seq, SeqProgram, Take};
+use brisk_syntax::{Expr, Exprs, Names, same_expr};
+use std::alloc::Global;
+use std::process::Abort;
+use std::test::Fail;
+
+fn parsed(rt: &impl Abort, alloc: Global, text: &[u8]) -> Result<SeqProgram, Fail> {
+    assert!(rt; text.len() <= 16_777_216);
+    let tokens = tokens(alloc, text)?;
+    Ok(sequential(alloc, &tokens)?)
+}
+
+// The fault of a sequential text, if it has one.
+pub fn fault(rt: &impl Abort, alloc: Global, text: &[u8]) -> Result<Option<ParseFault>, Fail> {
+    assert!(rt; text.len() <= 16_777_216);
+    let tokens = tokens(alloc, text)?;
+    match sequential(alloc, &tokens) {
+        Ok(_) => Ok(None),
+        Err(fault) => Ok(Some(fault)),
+    }
+}
+
+#[test]
+fn each_item_is_read(rt: HostRuntime) -> Result<(), Fail> {
+    let texts: [&[u8]; 11] = [
+        b"begin end",
+        b"enum E{A}one A{var x:int=0;input y:E;}many Ws nonempty{}begin end",
+        b"begin A.():=B.();A.(x):=B.(1);A.(x,y):=B.(1,2);end",
+        b"begin box 1(A to B):=A.();box 4294967295(A to B):=A.(1,2);end",
+        b"begin B.():=box 1(A to B);B.(x,y):=box 0(A to B);end",
+        b"begin if A.(a){}else{}if A.(a<b){A.(x):=A.(1);}else{A.(x):=A.(2);}end",
+        b"begin while A.(a){A.(a):=A.(!a);}end",
+        b"begin for S{for T{}}end",
+        b"begin for any S{A.():=S.();}end",
+        b"begin pick S{A.():=S.();}end",
+        b"begin repeat S{repeat S{}}end",
+    ];
+    for text in texts {
+        assert_eq!(rt; fault(&rt, rt.alloc(), text)?, None);
+    }
+    Ok(())
+}
+
+#[test]
+fn the_first_wrong_token_of_a_sequential_text_is_told(rt: HostRuntime) -> Result<(), Fail> {
+    let cases: [(&[u8], u32); 9] = [
+        (b"", 0),
+        (b"begin", 1),
+        (b"begin end end", 2),
+        (b"channel C();begin end", 0),
+        (b"one A{x:=1;}begin end", 3),
+        (b"begin x:=1;end", 2),
+        (b"begin A.(1):=B.(1);end", 4),
+        (b"begin A.(x):=B;end", 8),
+        (b"begin send C()to B;end", 1),
+    ];
+    for (text, token) in cases {
+        assert_eq!(rt;
+            fault(&rt, rt.alloc(), text)?,
+            Some(ParseFault::SyntaxFault(token))
+        );
+    }
+    Ok(())
+}
+
+#[test]
+fn the_first_wrong_token_of_an_item_is_told(rt: HostRuntime) -> Result<(), Fail> {
+    let cases: [(&[u8], u32); 9] = [
+        (b"begin box 4294967296(A to B):=A.();end", 2),
+        (b"begin box 1(A to B):=B.(1);end", 9),
+        (b"begin B.(x):=box 1(A to C);end", 12),
+        (b"begin if A.(a){}end", 9),
+        (b"begin if A.(a<b<c){}else{}end", 8),
+        (b"begin while(a){}end", 2),
+        (b"begin for any{}end", 3),
+        (b"begin pick any S{}end", 2),
+        (b"begin repeat S end", 3),
+    ];
+    for (text, token) in cases {
+        assert_eq!(rt;
+            fault(&rt, rt.alloc(), text)?,
+            Some(ParseFault::SyntaxFault(token))
+        );
+    }
+    Ok(())
+}
+
+// The two fill and take boxes alike.
+fn same_fill(a: &Fill, b: &Fill) -> bool {
+    match (a.exprs.items.first(), b.exprs.items.first()) {
+        (Some(e), Some(f)) => {
+            a.number == b.number && a.from == b.from && a.to == b.to && same_expr(e, f)
+        }
+        _ => false,
+    }
+}
+
+fn same_take(a: &Take, b: &Take) -> bool {
+    a.number == b.number
+        && a.from == b.from
+        && a.to == b.to
+        && a.vars.items.first() == b.vars.items.first()
+}
+
+#[test]
+fn a_filled_box_is_its_tree(rt: HostRuntime) -> Result<(), Fail> {
+    let read = parsed(&rt, rt.alloc(), b"begin box 7(A to B):=A.(3);end")?;
+    let mut items = Vec::new(rt.alloc());
+    items.push(Expr::Num(3))?;
+    let want = Fill {
+        number: 7,
+        from: name(b"A")?,
+        to: name(b"B")?,
+        exprs: Exprs { items },
+    };
+    match read.body.items.first() {
+        Some(Seq::Fill(fill)) => assert!(rt; same_fill(fill, &want)),
+        _ => Err("no fill")?,
+    }
+    Ok(())
+}
+
+#[test]
+fn a_taken_box_is_its_tree(rt: HostRuntime) -> Result<(), Fail> {
+    let read = parsed(&rt, rt.alloc(), b"begin B.(x):=box 7(A to B);end")?;
+    let mut items = Vec::new(rt.alloc());
+    items.push(name(b"x")?)?;
+    let want = Take {
+        to: name(b"B")?,
+        vars: Names { items },
+        number: 7,
+        from: name(b"A")?,
+    };
+    match read.body.items.first() {
+        Some(Seq::Take(take)) => assert!(rt; same_take(take, &want)),
+        _ => Err("no take")?,
+    }
+    Ok(())
+}

@@ -1,10 +1,12 @@
 -- What is noted of all failures is the first of them.
-use Rattle.std.proofs.Common.{◌≡◌, ℕ, ◌<◌, ◌≤◌, ◌⊎◌, inl, inr, Bool, true, false, ◌||◌, ◌&&◌, cond, nat_lt, nat_eq, Option, Some, None, Result, refl, sym, subst, ◌∙◌, arith}
+use Rattle.std.proofs.Common.{◌≡◌, ℕ, ◌<◌, ◌≤◌, ◌⊎◌, inl, inr, Bool, true, false, ◌||◌, ◌&&◌, cond, nat_lt, nat_eq, Option, Some, None, Result, Ok, Err, refl, sym, subst, ◌∙◌, arith}
+use Rattle.std.specs.Prelude.{IfErr}
 use Rattle.brisk_types.specs.declared.fault.Failure.{Failure}
 use Rattle.brisk_types.specs.declared.fault.Rule.{Rule}
 use Rattle.brisk_types.specs.declared.fault.Rule.TheVariants.{Unknown, Twice, NotASet, NotSingle, SelfPartner, WrongCount, WrongKind}
 use Rattle.brisk_types.specs.declared.fault.TypeFault.{TypeFault}
-use Rattle.brisk_types.specs.Failures.{Failures, none, fails, ◌also◌, Fails, NoneFails, FailsFirst, IsChecked, rank, answer, is_before, note_all}
+use Rattle.brisk_types.specs.declared.fault.TypeFault.TheVariants as fault
+use Rattle.brisk_types.specs.Failures.{Failures, none, fails, ◌also◌, Fails, NoneFails, FailsFirst, IsChecked, IsBelow, rank, answer, is_before, note_all}
 
 abbrev Leq : Failure → Rule → ℕ → Type 0
 Leq f q j = (f.at < j) ⊎ ((f.at ≡ j) × (rank f.rule ≤ rank q))
@@ -96,3 +98,15 @@ checked fs r result first e = subst (IsChecked fs) (sym e) (by r (subst (IsBest 
     by : (r : Option Failure) → IsBest None fs r → IsChecked fs (answer r)
     by None h = h.1
     by (Some f) h = told f.rule f.at (elim h.0 [ inl e ↦ cc | inr e ↦ e ], h.1)
+
+-- where each failure is below n, the token of the fault is
+pub told_below : (n : ℕ) (fs : Failures) (result : Result (Unit {0}) TypeFault) → ((r : Rule) (i : ℕ) → Fails fs r i → i < n) → IsChecked fs result → IfErr result (IsBelow n)
+told_below n fs (Ok u) h c = tt
+told_below n fs (Err (fault.Unknown i)) h c = h Unknown i c.0
+told_below n fs (Err (fault.Twice i)) h c = h Twice i c.0
+told_below n fs (Err (fault.NotASet i)) h c = h NotASet i c.0
+told_below n fs (Err (fault.NotSingle i)) h c = h NotSingle i c.0
+told_below n fs (Err (fault.SelfPartner i)) h c = h SelfPartner i c.0
+told_below n fs (Err (fault.WrongCount i)) h c = h WrongCount i c.0
+told_below n fs (Err (fault.WrongKind i)) h c = h WrongKind i c.0
+told_below n fs (Err fault.NoMemory) h c = tt

@@ -61,6 +61,17 @@ IsChecked fs (Err (fault.WrongCount i)) = FailsFirst fs rule.WrongCount i
 IsChecked fs (Err (fault.WrongKind i)) = FailsFirst fs rule.WrongKind i
 IsChecked fs (Err fault.NoMemory) = Unit {0}
 
+-- the token of the fault is below n
+abbrev pub IsBelow : ℕ → TypeFault → Type 0
+IsBelow n (fault.Unknown i) = i < n
+IsBelow n (fault.Twice i) = i < n
+IsBelow n (fault.NotASet i) = i < n
+IsBelow n (fault.NotSingle i) = i < n
+IsBelow n (fault.SelfPartner i) = i < n
+IsBelow n (fault.WrongCount i) = i < n
+IsBelow n (fault.WrongKind i) = i < n
+IsBelow n fault.NoMemory = Unit {0}
+
 -- the fault that a failure is answered as
 abbrev pub fault_by : Rule → ℕ → TypeFault
 fault_by rule.Unknown i = fault.Unknown i

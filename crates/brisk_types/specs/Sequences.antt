@@ -49,6 +49,7 @@ first_kind None xs = None
 first_kind (Some m) [] = None
 first_kind (Some m) (x ∷ xs) = m.kind_of_variable x
 
+-- the variables behind the first
 abbrev pub others : List Name → List Name
 others [] = []
 others (x ∷ xs) = xs

@@ -1,4 +1,4 @@
-//! Types programs: names, kinds and channels, with the token of the first failure.
+//! Types programs and sequential programs: names, kinds, channels and loops, with the token of the first failure.
 #![tactic(auto)]
 
 mod agreement;

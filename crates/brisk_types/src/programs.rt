@@ -1,9 +1,9 @@
 //! Programs.
-ghost use Rattle.std.specs.Prelude.{◌≡◌, ◌+◌, ◌<◌, ◌^◌, [], None, map, sum_by, IfOk, OnOk};
+ghost use Rattle.std.specs.Prelude.{◌≡◌, ◌+◌, ◌<◌, ◌^◌, [], None, map, sum_by, IfErr, IfOk, OnOk};
 ghost use Rattle.brisk_seq.specs.Tokens.{items_tokens, seq_tokens};
 ghost use Rattle.brisk_syntax.specs.Tokens.{program_tokens, role_tokens};
 ghost use Rattle.brisk_types.specs.Declarations.{failures};
-ghost use Rattle.brisk_types.specs.Failures.{IsChecked, note_all};
+ghost use Rattle.brisk_types.specs.Failures.{IsBelow, IsChecked, note_all};
 ghost use Rattle.brisk_types.specs.Names.{global_meaning, named_meanings};
 ghost use Rattle.brisk_types.specs.Sequences as spec;
 
@@ -43,7 +43,8 @@ fn noted(alloc: Global, program: &Program) -> Result<First, NoMemory>
 /// Whether the program is well typed, and otherwise the first token of its spelling at which a rule fails.
 pub fn check(alloc: Global, program: &Program) -> Result<(), TypeFault>
     requires { program_tokens program.now < 2 ^ 32 }
-    ensures { IsChecked (failures program.now) result }
+    ensures exact { IsChecked (failures program.now) result }
+    ensures below { IfErr result (IsBelow (program_tokens program.now)) }
 {
     match noted(alloc, program) {
         Ok(first) => first.answer(),
@@ -96,7 +97,8 @@ fn seq_noted(alloc: Global, program: &SeqProgram) -> Result<First, NoMemory>
 /// Whether the sequential program is well typed, and otherwise the first token of its spelling at which a rule fails.
 pub fn check_seq(alloc: Global, program: &SeqProgram) -> Result<(), TypeFault>
     requires { seq_tokens program.now < 2 ^ 32 }
-    ensures { IsChecked (spec.seq_failures program.now) result }
+    ensures exact { IsChecked (spec.seq_failures program.now) result }
+    ensures below { IfErr result (IsBelow (seq_tokens program.now)) }
 {
     match seq_noted(alloc, program) {
         Ok(first) => first.answer(),

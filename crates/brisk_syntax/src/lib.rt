@@ -7,6 +7,7 @@ mod equal;
 mod evaluate;
 mod lists;
 mod program;
+mod segments;
 mod substitute;
 #[cfg(test)]
 mod tests;
@@ -20,5 +21,6 @@ pub use lists::{Exprs, Names};
 pub use program::{
     Channel, Channels, Const, Decl, Decls, EnumDecl, Enums, Kinds, Program, Role, Roles,
 };
+pub use segments::Code;
 pub use substitute::subst;
-pub use tree::{AnyRecv, Block, Code, Expr, Loop, Stmt, Turns, Who};
+pub use tree::{AnyRecv, Block, Expr, Loop, Stmt, Turns, Who};

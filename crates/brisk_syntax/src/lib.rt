@@ -16,7 +16,7 @@ mod tree;
 pub use copy::{code_from, copy_code, copy_expr, copy_exprs, copy_names};
 pub use count::statements;
 pub use equal::{same_code, same_expr};
-pub use evaluate::eval;
+pub use evaluate::{eval, size_of_set};
 pub use lists::{Exprs, Names};
 pub use program::{
     Channel, Channels, Const, Decl, Decls, EnumDecl, Enums, Kinds, Program, Role, Roles,

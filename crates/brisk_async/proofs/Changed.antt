@@ -1,15 +1,18 @@
 -- Stores after the changes that events make.
 use Rattle.std.proofs.Common.{◌≡◌, ℕ, zero, suc, ◌+◌, ◌<◌, ◌≤◌, min, List, [], ◌∷◌, length, drop, get_or, Bool, true, false, Some, refl, sym, ap, ◌∙◌, arith}
-use Rattle.std.specs.Prelude.{Option, if◌then◌else◌}
-use Rattle.std.specs.FinMap.{insert}
-use Rattle.std.proofs.lemmas.List.{drop_more}
+use Rattle.std.specs.Prelude.{Option, IsSome, is_some, cond, if◌then◌else◌}
+use Rattle.std.specs.Ordering.{eq_by_cmp}
+use Rattle.std.specs.FinMap.{get, get-insert, insert}
+use Rattle.std.proofs.lemmas.List.{drop_more, get_or_default}
 use Rattle.brisk_values.specs.declared.value.Pid.{Pid}
 use Rattle.brisk_values.specs.declared.value.Value.{Value}
 use Rattle.brisk_values.specs.Functions.{changed}
 use Rattle.brisk_values.specs.Names.{Name, same_name, same_process}
-use Rattle.brisk_values.specs.Places.{Entries, value_in}
+use Rattle.brisk_values.specs.Places.{Entries, place_cmp, value_in}
 use Rattle.brisk_values.proofs.Changes.{changed-same, changed_again, exact_process, process_laws}
+use Rattle.brisk_values.proofs.Entries.{place_total}
 use Rattle.brisk_values.proofs.Stores.{one_variable}
+use Rattle.brisk_async.specs.There.{AreThere}
 use Rattle.brisk_syntax.specs.Stores.{Store, stored, with_variables}
 
 -- nothing is stored
@@ -50,3 +53,15 @@ no_more own (x ∷ xs) (v ∷ vs) (suc n) h = no_more own xs vs n (omega arith)
 -- past the end of either list nothing is stored
 pub stored_past : (s : Store) (p : Pid) (xs : List Name) (vs : List Value) (n : ℕ) → min (length xs) (length vs) ≤ n → stored s p (drop n xs) (drop n vs) ≡ s
 stored_past s p xs vs n h = ap (changed same_process s p) (no_more (s p) xs vs n h) ∙ sym (stored_none s p)
+
+-- a value that is there stays there when another is stored
+pub still_there : (m : Entries) (p : Pid) (x : Name) (v : Value) (xs : List Name) → AreThere m p xs → AreThere (insert m (p, x) v) p xs
+still_there m p x v xs there = λ k h. ap is_some (get-insert place_total m (p, x) v (p, get_or xs k [])) ∙ at (eq_by_cmp place_cmp (p, get_or xs k []) (p, x)) (get m (p, get_or xs k [])) (there k h)
+  where
+    at : (b : Bool) (o : Option Value) → IsSome o → is_some (cond b (Some v) o) ≡ true
+    at true o e = refl
+    at false o e = e
+
+-- the variable that is read is there
+pub this_there : (m : Entries) (p : Pid) (xs : List Name) (i : ℕ) (x : Name) → AreThere m p xs → i < length xs → x ≡ get_or xs i x → IsSome (get m (p, x))
+this_there m p xs i x there h e = ap (λ y. is_some (get m (p, y))) (e ∙ get_or_default xs i x [] h) ∙ there i h

@@ -7,3 +7,4 @@ pub mod Machine
 pub mod PlainRuns
 pub mod Refusals
 pub mod States
+pub mod There

@@ -1,5 +1,5 @@
 //! What an event does, found without changing the machine.
-ghost use Rattle.std.specs.Prelude.{◌≡◌, IfOk, OnOk, OnErr, IsSome, false, ℕ, Bool, Option as Opt, ◌+◌, ◌<◌, ◌^◌, map};
+ghost use Rattle.std.specs.Prelude.{◌≡◌, IfOk, OnOk, OnErr, IsSome, false, true, ℕ, Bool, Option as Opt, ◌+◌, ◌<◌, ◌^◌, map};
 ghost use Rattle.brisk_values.specs.declared.value.Value.{Value as Val};
 ghost use Rattle.brisk_values.specs.Names.{Name as Bytes, member};
 ghost use Rattle.brisk_syntax.specs.Stores.{is_true as is_true_value, stored};
@@ -13,6 +13,7 @@ ghost use Rattle.brisk_syntax.specs.Syntax.{Code as Tree, ◌⨾◌, ◌then◌,
 ghost use Rattle.brisk_syntax.specs.Value.{value_of, size_in};
 ghost use Rattle.brisk_async.specs.Machine.{Queue, Payload as Paid, partner as partner_of, is_member as is_member_of, effect, receives, payload_at, changed_mail};
 ghost use Rattle.brisk_async.specs.Keys.{mail_in, queue_of};
+ghost use Rattle.brisk_async.specs.There.{AreThere};
 ghost use Rattle.brisk_async.specs.Effects.{next_of, looks};
 ghost use Rattle.brisk_async.specs.Acts.{effect_if, effect_with, is_receive};
 
@@ -285,13 +286,35 @@ pub fn receive(
     }
 }
 
-// Stores the values at these variables of the process.
-fn store_all(
-    store: &mut Store,
-    process: &Pid,
-    vars: &Names,
-    values: &Payload,
-) -> Result<(), NoMemory>
+// Whether each of the variables has a value.
+fn are_there(store: &Store, process: &Pid, vars: &Names) -> bool
+    ensures { result ≡ true → AreThere store.now process.now vars.now }
+{
+    let xs = vars.items.as_slice();
+    for i in 0..xs.len() {
+        if store.get(*process, xs[i]).is_none() {
+            return false;
+        }
+    }
+    true
+}
+
+// Stores the values at these variables of the process, which takes no memory where they have values.
+fn store_there(store: &mut Store, process: &Pid, vars: &Names, values: &Payload) -> Result<(), NoMemory>
+    requires { AreThere store.old process.now vars.now }
+    ensures ok { OnOk result (value_in store.new ≡ stored (value_in store.old) process.now vars.now values.now) }
+    ensures err { OnErr result (store.new ≡ store.old) }
+{
+    let xs = vars.items.as_slice();
+    let vs = values.items.as_slice();
+    for i in 0..xs.len().min(vs.len()) {
+        store.set(*process, xs[i], vs[i])?;
+    }
+    Ok(())
+}
+
+// The same on a copy of the store, which takes its place.
+fn store_new(store: &mut Store, process: &Pid, vars: &Names, values: &Payload) -> Result<(), NoMemory>
     ensures ok { OnOk result (value_in store.new ≡ stored (value_in store.old) process.now vars.now values.now) }
     ensures err { OnErr result (store.new ≡ store.old) }
 {
@@ -303,6 +326,18 @@ fn store_all(
     }
     *store = next;
     Ok(())
+}
+
+// Stores the values at these variables of the process. Only where one has no value yet is the store copied.
+fn store_all(store: &mut Store, process: &Pid, vars: &Names, values: &Payload) -> Result<(), NoMemory>
+    ensures ok { OnOk result (value_in store.new ≡ stored (value_in store.old) process.now vars.now values.now) }
+    ensures err { OnErr result (store.new ≡ store.old) }
+{
+    if are_there(store, process, vars) {
+        store_there(store, process, vars, values)
+    } else {
+        store_new(store, process, vars, values)
+    }
 }
 
 /// Makes the change to the store and the mail.

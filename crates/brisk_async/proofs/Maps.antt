@@ -1,14 +1,17 @@
 -- Entries of ordered maps and the finite maps that they are seen as.
 use Rattle.std.proofs.Common.{◌≡◌, List, [], ◌∷◌, Bool, true, false, cond, Option, Some, None, refl, sym, ap, ◌∙◌}
-use Rattle.std.specs.Prelude.{if◌then◌else◌, IsSome, is_some, option_and_then}
+use Rattle.std.specs.Prelude.{if◌then◌else◌, IfSome, IsSome, is_some, option_and_then}
 use Rattle.std.specs.declared.cmp.Ordering.{Ordering}
 use Rattle.std.specs.Ordering.{nat_cmp, eq_by_cmp}
 use Rattle.std.specs.Cmp.{IsTotalOrder, both_ways, eq_by_cmp_equiv}
 use Rattle.std.specs.Cmp.Lexicographic.{slice_cmp}
 use Rattle.std.proofs.lemmas.Cmp.{nat_list_cmp_total, on_total, then_total}
 use Rattle.std.proofs.lemmas.Map.Lookups.{CmpEqualImpliesEq, exact_bytes, exact_pairs}
-use Rattle.std.proofs.lemmas.Map.Views.{tells_apart}
-use Rattle.std.specs.Map.{lookup}
+use Rattle.std.proofs.lemmas.Map.Views.{All-values_from_lookup, IfSome-lookup_from_All, tells_apart}
+use Rattle.std.specs.List.{All}
+use Rattle.std.specs.List.Sorted.{IsStrictlySortedBy}
+use Rattle.std.specs.Map.{keys_of, lookup, values_of}
+use Rattle.std.proofs.lemmas.Map.Keys.{IsDistinct-from_sorted}
 use Rattle.std.specs.BTreeMap.{is_at}
 use Rattle.std.specs.FinMap.{FinMap, find, get, insert, from_entries, get-from_entries, get-insert, same_map}
 use Rattle.brisk_values.specs.declared.value.Pid.{Pid}
@@ -99,3 +102,21 @@ there_of_head (Some c) h = refl
 pub absent_done : (o : Option Code) → is_some o ≡ false → or_done o ≡ done
 absent_done None h = refl
 absent_done (Some c) h = cc
+
+done_of : (o : Option Code) → IfSome o (λ c. c ≡ done) → or_done o ≡ done
+done_of None h = refl
+done_of (Some c) h = h
+
+of_done : (o : Option Code) → or_done o ≡ done → IfSome o (λ c. c ≡ done)
+of_done None h = tt
+of_done (Some c) h = h
+
+-- where all codes are empty, each is
+pub each_done : (es : List (Pid × Code)) → All (λ c. c ≡ done) (values_of es) → (p : Pid) → code_in_map (from_entries es) p ≡ done
+each_done es h p = ap or_done (get_listed process_total es p) ∙ done_of (lookup (is_at (process_cmp p)) es) (IfSome-lookup_from_All (λ c. c ≡ done) (is_at (process_cmp p)) es h)
+
+-- where each code is empty, all are
+pub all_done : (es : List (Pid × Code)) → IsStrictlySortedBy process_cmp (keys_of es) → ((p : Pid) → code_in_map (from_entries es) p ≡ done) → All (λ c. c ≡ done) (values_of es)
+all_done es sorted h =
+    All-values_from_lookup (eq_by_cmp_equiv process_total) (λ c. c ≡ done) es (IsDistinct-from_sorted process_cmp (keys_of es) sorted)
+    (λ p. of_done (lookup (is_at (process_cmp p)) es) (sym (ap or_done (get_listed process_total es p)) ∙ h p))

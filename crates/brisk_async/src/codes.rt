@@ -1,9 +1,14 @@
 //! What each process has left to do.
-ghost use Rattle.std.specs.Prelude.{◌≡◌, IsSome, option_and_then};
+ghost use Rattle.std.specs.Prelude.{◌≡◌, IsSome, IsTrue, ◌↔◌, All, option_and_then};
+ghost use Rattle.std.specs.BTreeMap as tree;
+ghost use Rattle.brisk_values.specs.Places.{process_cmp};
+ghost use Rattle.brisk_syntax.specs.Syntax.{done};
 ghost use Rattle.std.specs.Option.{option_copied};
 ghost use Rattle.std.specs.FinMap as map;
 ghost use Rattle.brisk_syntax.specs.Segments.{head_of, or_done};
 ghost use Rattle.brisk_async.specs.Effects.{next_of};
+ghost use Rattle.brisk_async.specs.Keys.{code_in_map};
+ghost use Rattle.brisk_values.specs.declared.value.Pid.{Pid as Process};
 
 use brisk_syntax::Code;
 use brisk_values::Pid;
@@ -42,6 +47,13 @@ impl Codes {
         self.codes.get(process)
     }
 
+    /// Whether every process has nothing left to do.
+    pub fn are_done(&self) -> bool
+        ensures { IsTrue result ↔ ((p : Process) → code_in_map self.now p ≡ done) }
+    {
+        all_done(&self.codes)
+    }
+
     /// Puts the next code of a process.
     pub fn put(&mut self, process: &Pid, next: Next)
         requires { IsSome (option_and_then head_of (map.get self.old process.now)) }
@@ -51,6 +63,21 @@ impl Codes {
             return put_next(code, next);
         }
     }
+}
+
+// Whether all codes are empty.
+fn all_done(codes: &BTreeMap<Pid, Code>) -> bool
+    ensures done { IsTrue result ↔ All (λ c. c ≡ done) (tree.values codes.now) }
+    ensures ordered { tree.IsOrdered process_cmp codes.now }
+{
+    codes.values().all(|code| is_empty(code))
+}
+
+// Whether the code is empty.
+fn is_empty(code: &Code) -> bool
+    ensures { IsTrue result ↔ (code.now ≡ done) }
+{
+    code.first().is_none()
 }
 
 // Puts the next code.

@@ -300,7 +300,12 @@ fn are_there(store: &Store, process: &Pid, vars: &Names) -> bool
 }
 
 // Stores the values at these variables of the process, which takes no memory where they have values.
-fn store_there(store: &mut Store, process: &Pid, vars: &Names, values: &Payload) -> Result<(), NoMemory>
+fn store_there(
+    store: &mut Store,
+    process: &Pid,
+    vars: &Names,
+    values: &Payload,
+) -> Result<(), NoMemory>
     requires { AreThere store.old process.now vars.now }
     ensures ok { OnOk result (value_in store.new ≡ stored (value_in store.old) process.now vars.now values.now) }
     ensures err { OnErr result (store.new ≡ store.old) }
@@ -314,7 +319,12 @@ fn store_there(store: &mut Store, process: &Pid, vars: &Names, values: &Payload)
 }
 
 // The same on a copy of the store, which takes its place.
-fn store_new(store: &mut Store, process: &Pid, vars: &Names, values: &Payload) -> Result<(), NoMemory>
+fn store_new(
+    store: &mut Store,
+    process: &Pid,
+    vars: &Names,
+    values: &Payload,
+) -> Result<(), NoMemory>
     ensures ok { OnOk result (value_in store.new ≡ stored (value_in store.old) process.now vars.now values.now) }
     ensures err { OnErr result (store.new ≡ store.old) }
 {
@@ -329,7 +339,12 @@ fn store_new(store: &mut Store, process: &Pid, vars: &Names, values: &Payload) -
 }
 
 // Stores the values at these variables of the process. Only where one has no value yet is the store copied.
-fn store_all(store: &mut Store, process: &Pid, vars: &Names, values: &Payload) -> Result<(), NoMemory>
+fn store_all(
+    store: &mut Store,
+    process: &Pid,
+    vars: &Names,
+    values: &Payload,
+) -> Result<(), NoMemory>
     ensures ok { OnOk result (value_in store.new ≡ stored (value_in store.old) process.now vars.now values.now) }
     ensures err { OnErr result (store.new ≡ store.old) }
 {

@@ -8,7 +8,7 @@ ghost use Rattle.brisk_syntax.specs.Statements.{statement_of};
 ghost use Rattle.brisk_syntax.specs.Syntax.{Code as Tree, ◌⨾◌};
 ghost use Rattle.brisk_async.specs.Acts.{effect_if, effect_of};
 ghost use Rattle.brisk_async.specs.Keys.{code_in_map, mail_in, queue_of};
-ghost use Rattle.brisk_async.specs.Machine.{after, effect, effect_in, payload_at, seen_by, step};
+ghost use Rattle.brisk_async.specs.Machine.{IsHalted, after, effect, effect_in, payload_at, seen_by, step};
 ghost use Rattle.brisk_async.specs.Refusals.{queue_refusal, refusal, refusal_at};
 ghost use Rattle.brisk_async.specs.States.{state_of};
 
@@ -59,6 +59,13 @@ impl Machine {
         ensures { option_copied result ≡ map.get self.now.codes process }
     {
         self.codes.get(&process)
+    }
+
+    /// Whether every process has nothing left to do.
+    pub fn is_halted(&self) -> bool
+        ensures { IsTrue result ↔ IsHalted (state_of self.now) }
+    {
+        self.codes.are_done()
     }
 
     // What the event does, from the code of its process.

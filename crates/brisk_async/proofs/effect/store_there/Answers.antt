@@ -1,8 +1,8 @@
-use Rattle.std.proofs.Common.{◌≡◌, ◌+◌, ◌<◌, drop, min, length, arith, ap, subst, sym, ◌∙◌, [], get_or}
+use Rattle.std.proofs.Common.{◌+◌, drop, arith, ap, subst, sym, ◌∙◌}
 use Rattle.brisk_values.specs.Places.{Entries, value_in}
 use Rattle.brisk_syntax.specs.Stores.{stored}
 use Rattle.brisk_async.specs.There.{AreThere}
-use Rattle.brisk_async.proofs.Changed.{still_there, stored_past, stored_step, this_there}
+use Rattle.brisk_async.proofs.Changed.{still_there, stored_past, stored_step}
 use Rattle.brisk_async.proofs.effect.store_there.Goals as goal
 
 pub loop-i-preserved : goal.loop-i-preserved
@@ -10,8 +10,8 @@ loop-i-preserved c =
     let p = c.args.process.now in let xs = c.as_slice-xs.result.now in let vs = c.as_slice-vs.result.now in let i = c.loop-i.i in
     record {
       same = ap (λ m. stored (value_in m) p (drop (i + 1) xs) (drop (i + 1) vs)) c.in_ok-set.ensures.ok
-        ∙ stored_step c.loop-i.store p xs vs i c.index-xs-i.result c.index-vs-i.result (omega arith) (omega arith) c.index-xs-i.is c.index-vs-i.is
-        ∙ c.loop-i.invariant.same;
+          ∙ stored_step c.loop-i.store p xs vs i c.index-xs-i.result c.index-vs-i.result (omega arith) (omega arith) c.index-xs-i.is c.index-vs-i.is
+          ∙ c.loop-i.invariant.same;
       there = subst (λ (m : Entries). AreThere m p xs) (sym c.in_ok-set.ensures.ok) (still_there c.loop-i.store p c.index-xs-i.result c.index-vs-i.result xs c.loop-i.invariant.there);
     }
 

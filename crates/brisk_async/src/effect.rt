@@ -1,21 +1,20 @@
 //! What an event does, found without changing the machine.
-ghost use Rattle.std.specs.Prelude.{◌≡◌, IfOk, OnOk, OnErr, IsSome, false, true, ℕ, Bool, Option as Opt, ◌+◌, ◌<◌, ◌^◌, map};
+ghost use Rattle.std.specs.Prelude.{◌≡◌, IfOk, IsSome, false, ℕ, Bool, Option as Opt, ◌+◌, if◌then◌else◌, nat_lt, map};
 ghost use Rattle.brisk_values.specs.declared.value.Value.{Value as Val};
 ghost use Rattle.brisk_values.specs.Names.{Name as Bytes, member};
-ghost use Rattle.brisk_syntax.specs.Stores.{is_true as is_true_value, stored};
+ghost use Rattle.brisk_syntax.specs.Stores.{is_true as is_true_value};
 ghost use Rattle.brisk_syntax.specs.Substitution.{code_with};
 ghost use Rattle.brisk_values.specs.Places.{value_in};
 ghost use Rattle.brisk_syntax.specs.Declarations.{is_loose as is_loose_in};
 ghost use Rattle.brisk_syntax.specs.Segments.{head_of, rest_of};
 ghost use Rattle.brisk_syntax.specs.Statements.{statement_of};
 ghost use Rattle.brisk_syntax.specs.Expressions.{expression_of};
-ghost use Rattle.brisk_syntax.specs.Syntax.{Code as Tree, ◌⨾◌, ◌then◌, done, For, Repeat};
+ghost use Rattle.brisk_syntax.specs.Syntax.{Code as Tree, ◌⨾◌, ◌then◌, For, Repeat};
 ghost use Rattle.brisk_syntax.specs.Value.{value_of, size_in};
-ghost use Rattle.brisk_async.specs.Machine.{Queue, Payload as Paid, partner as partner_of, is_member as is_member_of, effect, receives, payload_at, changed_mail};
+ghost use Rattle.brisk_async.specs.Machine.{Queue, Payload as Paid, partner as partner_of, is_member as is_member_of, effect, receives, payload_at};
 ghost use Rattle.brisk_async.specs.Keys.{mail_in, queue_of};
-ghost use Rattle.brisk_async.specs.There.{AreThere};
 ghost use Rattle.brisk_async.specs.Effects.{next_of, looks};
-ghost use Rattle.brisk_async.specs.Acts.{effect_if, effect_with, is_receive};
+ghost use Rattle.brisk_async.specs.Acts.{effect_if, is_receive};
 
 use crate::codes::Next;
 use crate::mail::{Key, Mail, Payload};
@@ -133,12 +132,15 @@ fn goes(next: Next) -> Act
     }
 }
 
-// What a turn of a `for` does: the body with this member in the place of the binder, and the next turn.
-fn next_member(alloc: Global, code: &Code, turns: &Loop) -> Result<Next, NoMemory>
-    requires some { IsSome (head_of code.now) }
-    requires turns { turns.now.turn + 1 < 2 ^ 32 }
-    ensures { IfOk result (λ n. next_of n code.now ≡ code_with turns.now.binder (Who.Pid (member turns.now.set turns.now.turn)) turns.now.body.value then (For turns.now.binder turns.now.set (turns.now.turn + 1) turns.now.body.value ⨾ rest_of code.now)) }
+// What a `for` does: where the set has a further member, the body with this member in the place of the binder, and
+// the next turn.
+fn next_member(alloc: Global, code: &Code, turns: &Loop, sizes: &Sizes) -> Result<Next, NoMemory>
+    requires { IsSome (head_of code.now) }
+    ensures { IfOk result (λ n. next_of n code.now ≡ (if nat_lt turns.now.turn (size_in sizes.now turns.now.set) then code_with turns.now.binder (Who.Pid (member turns.now.set turns.now.turn)) turns.now.body.value then (For turns.now.binder turns.now.set (turns.now.turn + 1) turns.now.body.value ⨾ rest_of code.now) else rest_of code.now)) }
 {
+    if turns.turn >= size_of_set(sizes, &turns.set) {
+        return Ok(Next::Rest);
+    }
     let member = Who::Pid(Pid {
         role: turns.set,
         member: turns.turn,
@@ -153,12 +155,14 @@ fn next_member(alloc: Global, code: &Code, turns: &Loop) -> Result<Next, NoMemor
     turned(alloc, code, &body, again)
 }
 
-// What a turn of a `repeat` does: the body, and the next turn.
-fn next_turn(alloc: Global, code: &Code, turns: &Turns) -> Result<Next, NoMemory>
-    requires some { IsSome (head_of code.now) }
-    requires turns { turns.now.turn + 1 < 2 ^ 32 }
-    ensures { IfOk result (λ n. next_of n code.now ≡ turns.now.body.value then (Repeat turns.now.set (turns.now.turn + 1) turns.now.body.value ⨾ rest_of code.now)) }
+// What a `repeat` does: where a turn is left, the body and the next turn.
+fn next_turn(alloc: Global, code: &Code, turns: &Turns, sizes: &Sizes) -> Result<Next, NoMemory>
+    requires { IsSome (head_of code.now) }
+    ensures { IfOk result (λ n. next_of n code.now ≡ (if nat_lt turns.now.turn (size_in sizes.now turns.now.set) then turns.now.body.value then (Repeat turns.now.set (turns.now.turn + 1) turns.now.body.value ⨾ rest_of code.now) else rest_of code.now)) }
 {
+    if turns.turn >= size_of_set(sizes, &turns.set) {
+        return Ok(Next::Rest);
+    }
     let again = Stmt::Repeat(Turns {
         set: turns.set,
         turn: turns.turn + 1,
@@ -218,20 +222,8 @@ pub fn plain(
                 Ok(Some(goes(Next::Rest)))
             }
         }
-        Stmt::For(l) => {
-            if l.turn < size_of_set(sizes, &l.set) {
-                Ok(Some(goes(next_member(alloc, code, l)?)))
-            } else {
-                Ok(Some(goes(Next::Rest)))
-            }
-        }
-        Stmt::Repeat(l) => {
-            if l.turn < size_of_set(sizes, &l.set) {
-                Ok(Some(goes(next_turn(alloc, code, l)?)))
-            } else {
-                Ok(Some(goes(Next::Rest)))
-            }
-        }
+        Stmt::For(l) => Ok(Some(goes(next_member(alloc, code, l, sizes)?))),
+        Stmt::Repeat(l) => Ok(Some(goes(next_turn(alloc, code, l, sizes)?))),
         Stmt::Recv(_, _, _) | Stmt::RecvAny(_) => Ok(None),
     }
 }
@@ -282,104 +274,6 @@ pub fn receive(
                 next,
                 change: Change::Takes(*key, place, copy_names(alloc, vars)?, payload),
             }))
-        }
-    }
-}
-
-// Whether each of the variables has a value.
-fn are_there(store: &Store, process: &Pid, vars: &Names) -> bool
-    ensures { result ≡ true → AreThere store.now process.now vars.now }
-{
-    let xs = vars.items.as_slice();
-    for i in 0..xs.len() {
-        if store.get(*process, xs[i]).is_none() {
-            return false;
-        }
-    }
-    true
-}
-
-// Stores the values at these variables of the process, which takes no memory where they have values.
-fn store_there(
-    store: &mut Store,
-    process: &Pid,
-    vars: &Names,
-    values: &Payload,
-) -> Result<(), NoMemory>
-    requires { AreThere store.old process.now vars.now }
-    ensures ok { OnOk result (value_in store.new ≡ stored (value_in store.old) process.now vars.now values.now) }
-    ensures err { OnErr result (store.new ≡ store.old) }
-{
-    let xs = vars.items.as_slice();
-    let vs = values.items.as_slice();
-    for i in 0..xs.len().min(vs.len()) {
-        store.set(*process, xs[i], vs[i])?;
-    }
-    Ok(())
-}
-
-// The same on a copy of the store, which takes its place.
-fn store_new(
-    store: &mut Store,
-    process: &Pid,
-    vars: &Names,
-    values: &Payload,
-) -> Result<(), NoMemory>
-    ensures ok { OnOk result (value_in store.new ≡ stored (value_in store.old) process.now vars.now values.now) }
-    ensures err { OnErr result (store.new ≡ store.old) }
-{
-    let mut next = store.copy()?;
-    let xs = vars.items.as_slice();
-    let vs = values.items.as_slice();
-    for i in 0..xs.len().min(vs.len()) {
-        next.set(*process, xs[i], vs[i])?;
-    }
-    *store = next;
-    Ok(())
-}
-
-// Stores the values at these variables of the process. Only where one has no value yet is the store copied.
-fn store_all(
-    store: &mut Store,
-    process: &Pid,
-    vars: &Names,
-    values: &Payload,
-) -> Result<(), NoMemory>
-    ensures ok { OnOk result (value_in store.new ≡ stored (value_in store.old) process.now vars.now values.now) }
-    ensures err { OnErr result (store.new ≡ store.old) }
-{
-    if are_there(store, process, vars) {
-        store_there(store, process, vars, values)
-    } else {
-        store_new(store, process, vars, values)
-    }
-}
-
-/// Makes the change to the store and the mail.
-pub fn make_change(
-    store: &mut Store,
-    mail: &mut Mail,
-    process: &Pid,
-    change: Change,
-) -> Result<(), NoMemory>
-    ensures stored { OnOk result (let x = effect_with done change in value_in store.new ≡ stored (value_in store.old) process.now x.variables x.values) }
-    ensures sent { OnOk result (let x = effect_with done change in mail_in mail.new ≡ changed_mail x.mail (mail_in mail.old)) }
-    ensures err { OnErr result ((store.new ≡ store.old) × (mail.new ≡ mail.old)) }
-{
-    match change {
-        Change::Nothing => Ok(()),
-        Change::Stores(x, v) => {
-            store.set(*process, x, v)?;
-            Ok(())
-        }
-        Change::Sends(key, payload) => {
-            mail.push(&key, payload)?;
-            Ok(())
-        }
-        Change::Takes(key, place, vars, values) => {
-            store_all(store, process, &vars, &values)?;
-            mail.take(&key, place);
-            Ok(())
         }
     }
 }

@@ -1,6 +1,7 @@
 //! The machine of asynchronous processes.
 #![tactic(auto)]
 
+mod changes;
 mod codes;
 mod effect;
 mod event;

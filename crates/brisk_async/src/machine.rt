@@ -1,5 +1,5 @@
 //! The machine: the state of an instance, which events change.
-ghost use Rattle.std.specs.Prelude.{◌≡◌, IfOk, IfErr, OnOk, OnErr, IsSome, IsTrue, Some, None, ◌⊎◌, ◌↔◌, option_and_then};
+ghost use Rattle.std.specs.Prelude.{◌≡◌, IfOk, IfErr, IfSome, is_some, OnOk, OnErr, IsSome, IsTrue, Some, None, ◌⊎◌, ◌↔◌, option_and_then};
 ghost use Rattle.std.specs.Option.{option_copied};
 ghost use Rattle.std.specs.FinMap as map;
 ghost use Rattle.brisk_syntax.specs.Declarations.{is_loose as is_loose_in};
@@ -10,10 +10,12 @@ ghost use Rattle.brisk_async.specs.Acts.{effect_if, effect_of};
 ghost use Rattle.brisk_async.specs.Keys.{code_in_map, mail_in, queue_of};
 ghost use Rattle.brisk_async.specs.Machine.{IsHalted, after, effect, effect_in, payload_at, seen_by, step};
 ghost use Rattle.brisk_async.specs.Refusals.{queue_refusal, refusal, refusal_at};
-ghost use Rattle.brisk_async.specs.States.{state_of};
+ghost use Rattle.brisk_async.specs.States.{is_process, state_of};
+ghost use Rattle.brisk_syntax.specs.Value.{size_in};
 
+use crate::changes::make_change;
 use crate::codes::{Codes, Next};
-use crate::effect::{Act, is_loose, is_member, make_change, partner, plain, receive, replaced};
+use crate::effect::{Act, is_loose, is_member, partner, plain, receive, replaced};
 use crate::event::Event;
 use crate::fault::StepFault;
 use crate::mail::{Key, Mail};
@@ -56,7 +58,9 @@ impl Machine {
 
     /// What a process has left to do, if it is in the instance.
     pub fn code(&self, process: Pid) -> Option<&Code>
-        ensures { option_copied result ≡ map.get self.now.codes process }
+        ensures kept { option_copied result ≡ map.get self.now.codes process }
+        ensures code { IfSome result (λ c. c.now ≡ code_in_map self.now.codes process) }
+        ensures inside { is_some result ≡ is_process self.now.program (size_in self.now.sizes) process }
     {
         self.codes.get(&process)
     }

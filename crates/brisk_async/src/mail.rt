@@ -107,6 +107,16 @@ impl Model for Mail {
 }
 
 impl Mail {
+    /// Empty queues.
+    pub fn new(alloc: Global) -> Mail
+        ensures { mail_in result ≡ (λ q. []) }
+    {
+        Mail {
+            alloc,
+            queues: BTreeMap::new(alloc),
+        }
+    }
+
     /// The payload at a place of a queue, counted from 0 at the oldest.
     pub fn payload(&self, key: &Key, place: u32) -> Option<&Payload>
         ensures { option_copied result ≡ payload_at (mail_in self.now (queue_of key.now)) place }
@@ -139,5 +149,45 @@ impl Mail {
         if let Some(waiting) = self.queues.get_mut(key) {
             return waiting.take(place);
         }
+    }
+}
+
+#[cfg(test)]
+mod tests {
+    use super::*;
+    use std::test::Fail;
+
+    fn process() -> Pid {
+        Pid {
+            role: Name::new(b"A").unwrap(),
+            member: 0,
+        }
+    }
+
+    fn key() -> Key {
+        Key {
+            from: process(),
+            to: process(),
+            channel: Name::new(b"T").unwrap(),
+        }
+    }
+
+    fn number(mail: &Mail, place: u32) -> Option<Value> {
+        mail.payload(&key(), place)?.items.first().copied()
+    }
+
+    #[test]
+    fn the_others_keep_their_order(rt: HostRuntime) -> Result<(), Fail> {
+        let mut mail = Mail::new(rt.alloc());
+        for n in 0..4 {
+            let items = vec![in rt.alloc(); Value::Int(n)]?;
+            mail.push(&key(), Payload { items })?;
+        }
+        mail.take(&key(), 2);
+        mail.take(&key(), 0);
+        assert_eq!(rt; number(&mail, 0), Some(Value::Int(1)));
+        assert_eq!(rt; number(&mail, 1), Some(Value::Int(3)));
+        assert_eq!(rt; number(&mail, 2), None);
+        Ok(())
     }
 }

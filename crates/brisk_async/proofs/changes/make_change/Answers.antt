@@ -4,7 +4,7 @@ use Rattle.brisk_values.proofs.Stores.{one_variable}
 use Rattle.brisk_syntax.specs.Stores.{stored}
 use Rattle.brisk_syntax.specs.Syntax.{done}
 use Rattle.brisk_async.specs.Acts.{effect_with}
-use Rattle.brisk_async.proofs.effect.make_change.Goals as goal
+use Rattle.brisk_async.proofs.changes.make_change.Goals as goal
 
 pub returns-in_ok-set-in-Stores-clause-stored : goal.returns-in_ok-set-in-Stores-clause-stored
 returns-in_ok-set-in-Stores-clause-stored c =

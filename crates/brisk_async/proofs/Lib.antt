@@ -1,10 +1,15 @@
 pub mod Alone
 pub mod Begins
+pub mod Changed
 pub mod Expressions
+pub mod Heads
 pub mod Kinded
+pub mod Maps
 pub mod Members
 pub mod Named
 pub mod Orders
+pub mod Payloads
 pub mod Queues
+pub mod Refused
 pub mod Runs
 pub mod Senders

@@ -1,4 +1,10 @@
+pub mod Acts
+pub mod Effects
+pub mod Keys
 pub mod Kinds
 pub mod Laws
 pub mod Machine
 pub mod PlainRuns
+pub mod Refusals
+pub mod States
+pub mod There

@@ -1,8 +1,16 @@
 //! The machine of asynchronous processes.
 #![tactic(auto)]
 
+mod changes;
+mod codes;
+mod effect;
 mod event;
+mod fault;
 mod laws;
+mod machine;
+mod mail;
 
 pub use event::Event;
+pub use fault::StepFault;
 pub use laws::{diamond, front, kinds_hold, named_back, named_head, one_event, run_appends};
+pub use machine::Machine;

@@ -6,6 +6,7 @@ pub mod Expressions
 pub mod Falls
 pub mod Instance
 pub mod Roles
+pub mod Segments
 pub mod Statements
 pub mod Stored
 pub mod Stores

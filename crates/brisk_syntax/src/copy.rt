@@ -3,7 +3,8 @@ ghost use Rattle.brisk_syntax.specs.Expressions.{expression_of};
 ghost use Rattle.brisk_syntax.specs.Statements.{statement_of, code_of};
 
 use crate::lists::{Exprs, Names};
-use crate::tree::{AnyRecv, Block, Code, Expr, Loop, Stmt, Turns};
+use crate::segments::Code;
+use crate::tree::{AnyRecv, Block, Expr, Loop, Stmt, Turns};
 use brisk_values::NoMemory;
 use std::alloc::Global;
 
@@ -106,16 +107,12 @@ fn copy_all(alloc: Global, ss: &[Stmt]) -> Result<Vec<Stmt>, NoMemory>
 pub fn code_from(alloc: Global, body: &Block) -> Result<Code, NoMemory>
     ensures { IfOk result (λ c. c ≡ body.now) }
 {
-    Ok(Code {
-        items: copy_all(alloc, &body.items)?,
-    })
+    Code::of(alloc, copy_all(alloc, &body.items)?)
 }
 
-/// The code with the same statements.
+/// The code with the same statements, which shares its bodies.
 pub fn copy_code(alloc: Global, code: &Code) -> Result<Code, NoMemory>
     ensures { IfOk result (λ c. c ≡ code.now) }
 {
-    Ok(Code {
-        items: copy_all(alloc, &code.items)?,
-    })
+    code.copy(alloc)
 }

@@ -3,7 +3,8 @@ ghost use Rattle.brisk_syntax.specs.Expressions.{expression_of};
 ghost use Rattle.brisk_syntax.specs.Statements.{statement_of, code_of};
 
 use crate::lists::{Exprs, Names};
-use crate::tree::{Block, Code, Expr, Stmt};
+use crate::segments::Code;
+use crate::tree::{Block, Expr, Stmt};
 use brisk_values::same_name;
 
 /// Whether two expressions are equal.
@@ -61,7 +62,19 @@ fn same_exprs(a: &Exprs, b: &Exprs) -> bool
 pub fn same_code(a: &Code, b: &Code) -> bool
     ensures { IsTrue result ↔ (a.now ≡ b.now) }
 {
-    same_all(a.items.as_slice(), b.items.as_slice())
+    let mut left = a.walk();
+    let mut right = b.walk();
+    while let Some(s) = left.next() {
+        match right.next() {
+            None => return false,
+            Some(t) => {
+                if !same_stmt(s, t) {
+                    return false;
+                }
+            }
+        }
+    }
+    right.next().is_none()
 }
 
 #[cycle(same)]

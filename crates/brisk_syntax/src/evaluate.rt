@@ -41,8 +41,8 @@ fn eval_at(expr: &Expr, process: &Pid, store: &Store, sizes: &Sizes) -> Value
     }
 }
 
-// The size of a set, and 0 where it has none.
-fn size_of_set(sizes: &Sizes, set: &Name) -> u32
+/// The size of a set, and 0 where it has none.
+pub fn size_of_set(sizes: &Sizes, set: &Name) -> u32
     ensures { result ≡ size_in sizes.now set.now }
 {
     for (name, size) in &sizes.items {

@@ -7,6 +7,7 @@ mod equal;
 mod evaluate;
 mod lists;
 mod program;
+mod segments;
 mod substitute;
 #[cfg(test)]
 mod tests;
@@ -15,10 +16,11 @@ mod tree;
 pub use copy::{code_from, copy_code, copy_expr, copy_exprs, copy_names};
 pub use count::statements;
 pub use equal::{same_code, same_expr};
-pub use evaluate::eval;
+pub use evaluate::{eval, size_of_set};
 pub use lists::{Exprs, Names};
 pub use program::{
     Channel, Channels, Const, Decl, Decls, EnumDecl, Enums, Kinds, Program, Role, Roles,
 };
+pub use segments::Code;
 pub use substitute::subst;
-pub use tree::{AnyRecv, Block, Code, Expr, Loop, Stmt, Turns, Who};
+pub use tree::{AnyRecv, Block, Expr, Loop, Stmt, Turns, Who};

@@ -78,3 +78,91 @@ fn a_copy_is_the_same(rt: HostRuntime) -> Result<(), Fail> {
     );
     Ok(())
 }
+
+// `x := n;`
+fn assigned(n: u64) -> Stmt {
+    Stmt::Assign(named(b"x"), Expr::Num(n))
+}
+
+// The number that the statement assigns.
+fn number(statement: Option<&Stmt>) -> Option<u64> {
+    match statement {
+        Some(Stmt::Assign(_, Expr::Num(n))) => Some(*n),
+        _ => None,
+    }
+}
+
+// Removes the first statement, and answers the number that it assigns.
+fn taken(code: &mut Code) -> Option<u64> {
+    let first = code.first()?;
+    let number = number(Some(first));
+    code.skip();
+    number
+}
+
+#[test]
+fn an_empty_body_is_no_segment(rt: HostRuntime) -> Result<(), Fail> {
+    let alloc = rt.alloc();
+    let mut code = Code::of(alloc, Vec::new(alloc))?;
+    assert!(rt; code.first().is_none());
+    assert!(rt; code.at(0).is_none());
+    let empty = Rc::new(
+        alloc,
+        Block {
+            items: Vec::new(alloc),
+        },
+    )?;
+    code.put_before(&empty)?;
+    assert!(rt; code.first().is_none());
+    Ok(())
+}
+
+#[test]
+fn two_segments_are_one_list(rt: HostRuntime) -> Result<(), Fail> {
+    let alloc = rt.alloc();
+    let mut code = Code::of(alloc, vec![in alloc; assigned(2), assigned(3)]?)?;
+    assert_eq!(rt; number(code.first()), Some(2));
+    assert_eq!(rt; number(code.at(1)), Some(3));
+    assert!(rt; code.at(2).is_none());
+    let front = Rc::new(
+        alloc,
+        Block {
+            items: vec![in alloc; assigned(0), assigned(1)]?,
+        },
+    )?;
+    code.put_before(&front)?;
+    let list = vec![in alloc; assigned(0), assigned(1), assigned(2), assigned(3)]?;
+    assert!(rt; same_code(&code, &Code::of(alloc, list)?));
+    assert_eq!(rt; number(code.at(1)), Some(1));
+    assert_eq!(rt; number(code.at(2)), Some(2));
+    for n in 0..4 {
+        assert_eq!(rt; taken(&mut code), Some(n));
+    }
+    assert!(rt; code.first().is_none());
+    Ok(())
+}
+
+#[test]
+fn a_turn_puts_two_bodies_for_the_first_statement(rt: HostRuntime) -> Result<(), Fail> {
+    let alloc = rt.alloc();
+    let mut code = Code::of(alloc, vec![in alloc; assigned(9), assigned(2)]?)?;
+    let body = Rc::new(
+        alloc,
+        Block {
+            items: vec![in alloc; assigned(0)]?,
+        },
+    )?;
+    let next = Rc::new(
+        alloc,
+        Block {
+            items: vec![in alloc; assigned(1)]?,
+        },
+    )?;
+    code.unroll(&body, &next)?;
+    let list = vec![in alloc; assigned(0), assigned(1), assigned(2)]?;
+    assert!(rt; same_code(&code, &Code::of(alloc, list)?));
+    code.replace_first(&next)?;
+    assert_eq!(rt; number(code.first()), Some(1));
+    assert_eq!(rt; number(code.at(1)), Some(1));
+    Ok(())
+}

@@ -27,25 +27,6 @@ pub enum Who {
     Pid(Pid),
 }
 
-/// What a process or a thread has left to do.
-#[derive(Drop)]
-pub struct Code {
-    pub items: Vec<Stmt>,
-}
-
-impl Model for Code {
-    ghost use Rattle.brisk_syntax.specs.Syntax.{Code};
-    ghost use Rattle.brisk_syntax.specs.Stored.{coded_code};
-
-    ghost Value = { Code };
-
-    ghost coded = { coded_code };
-
-    ghost use Rattle.brisk_syntax.specs.Statements.{code_of};
-
-    ghost view = { λ a. code_of a.items.items };
-}
-
 /// The text of a role or of a body. It is never changed once it is made.
 #[cycle(code)]
 #[derive(Drop)]

@@ -1,0 +1,23 @@
+use Rattle.std.proofs.Common.{◌+◌, drop, arith, ap, subst, sym, ◌∙◌}
+use Rattle.brisk_values.specs.Places.{Entries, value_in}
+use Rattle.brisk_syntax.specs.Stores.{stored}
+use Rattle.brisk_async.specs.There.{AreThere}
+use Rattle.brisk_async.proofs.Changed.{still_there, stored_past, stored_step}
+use Rattle.brisk_async.proofs.changes.store_there.Goals as goal
+
+pub loop-i-preserved : goal.loop-i-preserved
+loop-i-preserved c =
+    let p = c.args.process.now in let xs = c.as_slice-xs.result.now in let vs = c.as_slice-vs.result.now in let i = c.loop-i.i in
+    record {
+      same = ap (λ m. stored (value_in m) p (drop (i + 1) xs) (drop (i + 1) vs)) c.in_ok-set.ensures.ok
+          ∙ stored_step c.loop-i.store p xs vs i c.index-xs-i.result c.index-vs-i.result (omega arith) (omega arith) c.index-xs-i.is c.index-vs-i.is
+          ∙ c.loop-i.invariant.same;
+      there = subst (λ (m : Entries). AreThere m p xs) (sym c.in_ok-set.ensures.ok) (still_there c.loop-i.store p c.index-xs-i.result c.index-vs-i.result xs c.loop-i.invariant.there);
+    }
+
+pub returns-clause-ok : goal.returns-clause-ok
+returns-clause-ok c =
+    let p = c.args.process.now in let xs = c.as_slice-xs.result.now in let vs = c.as_slice-vs.result.now in let i = c.loop-i.i in
+    sym (stored_past (value_in c.loop-i.store) p xs vs i (omega arith))
+    ∙ c.loop-i.invariant.same
+    ∙ (λ j. stored (value_in c.args.store.now) p ((c.as_slice-xs.ensures.value ∙ c.vars.view_is) j) ((c.as_slice-vs.ensures.value ∙ c.values.view_is) j))

@@ -1,0 +1,193 @@
+//! Mail: for each sender, receiver and channel the payloads that wait, the oldest first.
+ghost use Rattle.std.specs.Prelude.{◌≡◌, ◌∷◌, [], ◌++◌, OnOk, OnErr, IsSome, option_map};
+ghost use Rattle.std.specs.Option.{option_copied};
+ghost use Rattle.brisk_values.specs.Functions.{changed};
+ghost use Rattle.brisk_async.specs.Machine.{same_queue, payload_at, without};
+ghost use Rattle.brisk_async.specs.Keys.{mail_in, queue_of};
+
+use brisk_values::{Name, NoMemory, Pid, Value};
+use std::alloc::Global;
+use std::collections::{BTreeMap, VecDeque};
+use std::marker::Model;
+
+/// What one message carries.
+#[derive(Drop)]
+pub struct Payload {
+    pub items: Vec<Value>,
+}
+
+impl Model for Payload {
+    ghost use Rattle.std.specs.Prelude.{List};
+    ghost use Rattle.std.specs.Coded.{coded_list};
+    ghost use Rattle.brisk_values.specs.Places.{coded_value};
+    ghost use Rattle.brisk_values.specs.declared.value.Value.{Value as Val};
+
+    ghost Value = { List Val };
+
+    ghost coded = { coded_list coded_value };
+
+    ghost view = { λ a. a.items.items };
+}
+
+/// The sender, the receiver and the channel of a queue.
+#[derive(Clone, Copy, Debug, PartialEq, Eq, PartialOrd, Ord)]
+pub struct Key {
+    pub from: Pid,
+    pub to: Pid,
+    pub channel: Name,
+}
+
+// The payloads of one queue, the oldest first.
+#[derive(Drop)]
+struct Waiting {
+    payloads: VecDeque<Payload>,
+}
+
+impl Model for Waiting {
+    ghost use Rattle.std.specs.Prelude.{List};
+    ghost use Rattle.std.specs.Coded.{coded_list};
+    ghost use Rattle.brisk_values.specs.Places.{coded_value};
+    ghost use Rattle.brisk_values.specs.declared.value.Value.{Value as Val};
+
+    ghost Value = { List (List Val) };
+
+    ghost coded = { coded_list (coded_list coded_value) };
+
+    ghost view = { λ a. a.payloads.items };
+}
+
+impl Waiting {
+    fn payload(&self, place: u32) -> Option<&Payload>
+        ensures { option_copied result ≡ payload_at self.now place }
+    {
+        let place = place as usize;
+        if place < self.payloads.len() {
+            Some(&self.payloads[place])
+        } else {
+            None
+        }
+    }
+
+    fn push(&mut self, payload: Payload) -> Result<(), NoMemory>
+        ensures ok { OnOk result (self.new ≡ self.old ++ payload ∷ []) }
+        ensures err { OnErr result (self.new ≡ self.old) }
+    {
+        self.payloads.push_back(payload)?;
+        Ok(())
+    }
+
+    fn take(&mut self, place: u32)
+        ensures { self.new ≡ without self.old place }
+    {
+        let place = place as usize;
+        if place == 0 {
+            let _oldest = self.payloads.pop_front();
+        } else if place < self.payloads.len() {
+            let _taken = self.payloads.remove(place);
+        }
+    }
+}
+
+/// The queues of a machine.
+#[derive(Drop)]
+pub struct Mail {
+    alloc: Global,
+    queues: BTreeMap<Key, Waiting>,
+}
+
+impl Model for Mail {
+    ghost use Rattle.std.specs.FinMap as map;
+    ghost use Rattle.brisk_async.specs.Keys.{Queues, coded_queues};
+
+    ghost Value = { Queues };
+
+    ghost coded = { coded_queues };
+
+    ghost view = { λ m. map.from_entries m.queues.entries };
+}
+
+impl Mail {
+    /// Empty queues.
+    pub fn new(alloc: Global) -> Mail
+        ensures { mail_in result ≡ (λ q. []) }
+    {
+        Mail {
+            alloc,
+            queues: BTreeMap::new(alloc),
+        }
+    }
+
+    /// The payload at a place of a queue, counted from 0 at the oldest.
+    pub fn payload(&self, key: &Key, place: u32) -> Option<&Payload>
+        ensures { option_copied result ≡ payload_at (mail_in self.now (queue_of key.now)) place }
+    {
+        match self.queues.get(key) {
+            None => None,
+            Some(waiting) => waiting.payload(place),
+        }
+    }
+
+    /// Puts the payload at the end of the queue.
+    pub fn push(&mut self, key: &Key, payload: Payload) -> Result<(), NoMemory>
+        ensures ok { OnOk result (mail_in self.new ≡ changed same_queue (mail_in self.old) (queue_of key.now) (mail_in self.old (queue_of key.now) ++ payload ∷ [])) }
+        ensures err { OnErr result (self.new ≡ self.old) }
+    {
+        if let Some(waiting) = self.queues.get_mut(key) {
+            waiting.push(payload)?;
+            return Ok(());
+        }
+        let mut payloads = VecDeque::new(self.alloc);
+        payloads.push_back(payload)?;
+        self.queues.insert(*key, Waiting { payloads })?;
+        Ok(())
+    }
+
+    /// Takes the payload at the place of the queue.
+    pub fn take(&mut self, key: &Key, place: u32)
+        ensures { mail_in self.new ≡ changed same_queue (mail_in self.old) (queue_of key.now) (without (mail_in self.old (queue_of key.now)) place) }
+    {
+        if let Some(waiting) = self.queues.get_mut(key) {
+            return waiting.take(place);
+        }
+    }
+}
+
+#[cfg(test)]
+mod tests {
+    use super::*;
+    use std::test::Fail;
+
+    fn process() -> Pid {
+        Pid {
+            role: Name::new(b"A").unwrap(),
+            member: 0,
+        }
+    }
+
+    fn key() -> Key {
+        Key {
+            from: process(),
+            to: process(),
+            channel: Name::new(b"T").unwrap(),
+        }
+    }
+
+    fn number(mail: &Mail, place: u32) -> Option<Value> {
+        mail.payload(&key(), place)?.items.first().copied()
+    }
+
+    #[test]
+    fn the_others_keep_their_order(rt: HostRuntime) -> Result<(), Fail> {
+        let mut mail = Mail::new(rt.alloc());
+        for n in 0..4 {
+            let items = vec![in rt.alloc(); Value::Int(n)]?;
+            mail.push(&key(), Payload { items })?;
+        }
+        mail.take(&key(), 2);
+        mail.take(&key(), 0);
+        assert_eq!(rt; number(&mail, 0), Some(Value::Int(1)));
+        assert_eq!(rt; number(&mail, 1), Some(Value::Int(3)));
+        assert_eq!(rt; number(&mail, 2), None);
+        Ok(())
+    }
+}

@@ -1,3 +1,5 @@
+pub mod Derivable
+pub mod Headline
 pub mod Heads
 pub mod Pieces
 pub mod Progress

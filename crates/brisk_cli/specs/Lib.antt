@@ -1,4 +1,5 @@
 pub mod Answers
 pub mod Files
 pub mod Fragment
+pub mod Headline
 pub mod Rewriting

@@ -3,6 +3,7 @@ ghost use Rattle.std.specs.Prelude.{◌≡◌, ◌⊎◌, None, IfOk, IfSome, ma
 ghost use Rattle.std.specs.String.{string_bytes};
 ghost use Rattle.brisk_io.specs.Causes.{Rose};
 ghost use Rattle.brisk_cli.specs.Answers.{Answered, IsBefore, IsServed, OfFile, OfWords, file_of};
+ghost use Rattle.brisk_cli.specs.Headline.{Headline};
 
 use crate::answer::{Answer, file_line, of_source};
 use crate::files::{Unread, read_file, write_all};
@@ -55,6 +56,28 @@ fn of_words<F: Folder>(alloc: Global, words: &[String], folder: &mut F) -> Resul
     }
 }
 
+// Makes the whole answer, and then writes it.
+fn answer_words<F: Folder, O: Sink>(
+    alloc: Global,
+    words: &[String],
+    folder: &mut F,
+    out: &mut O,
+) -> Status
+    ensures missing { result ≡ Status.NoFile → Rose (F.misses folder.old) (F.misses folder.new) }
+    ensures failed { result ≡ Status.ReadFault → Rose (F.faults folder.old) (F.faults folder.new) }
+    ensures write { result ≡ Status.WriteFault → Rose (O.faults out.old) (O.faults out.new) }
+    ensures usage { IsServed (file_of (map string_bytes words.now)) result }
+    ensures answered { Answered (map string_bytes words.now) (F.files folder.old) (O.written out.old) (O.written out.new) result }
+{
+    match of_words(alloc, words, folder) {
+        Ok(answer) => match write_all(out, &answer.text) {
+            Ok(()) => answer.status,
+            Err(_) => Status::WriteFault,
+        },
+        Err(NoMemory) => Status::NoMemory,
+    }
+}
+
 /// Does all that the program does with the words after its name.
 ///
 /// The whole answer is made before its first byte is written, and from then on no memory is taken. Where memory runs
@@ -71,12 +94,8 @@ pub fn serve<F: Folder, O: Sink>(
     // `Usage` exactly where the words have no listed form
     ensures usage { IsServed (file_of (map string_bytes words.now)) result }
     ensures answered { Answered (map string_bytes words.now) (F.files folder.old) (O.written out.old) (O.written out.new) result }
+    // what is written with the status of success is faithful to the processes
+    ensures faithful { Headline (map string_bytes words.now) (F.files folder.old) (O.written out.old) (O.written out.new) result }
 {
-    match of_words(alloc, words, folder) {
-        Ok(answer) => match write_all(out, &answer.text) {
-            Ok(()) => answer.status,
-            Err(_) => Status::WriteFault,
-        },
-        Err(NoMemory) => Status::NoMemory,
-    }
+    answer_words(alloc, words, folder, out)
 }

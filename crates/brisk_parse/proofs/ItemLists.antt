@@ -4,20 +4,13 @@ use Rattle.brisk_lex.specs.declared.token.Token.{Token}
 use Rattle.brisk_seq.specs.Items.{Item, Items, nothing, ◌⨟◌, ◌followed_by◌}
 use Rattle.brisk_seq.specs.declared.tree.Seq.{Seq}
 use Rattle.brisk_seq.specs.Seen.{item_of, items_of}
+use Rattle.brisk_seq.proofs.Items.{followed_by-nothing, followed_by_assoc}
 use Rattle.brisk_parse.specs.declared.fault.Stop.{Stop}
 use Rattle.brisk_parse.specs.declared.fault.Stop.TheVariants.{Syntax, TooDeep, TooMany, NoMemory}
 use Rattle.brisk_parse.specs.Input.{Input, head}
 use Rattle.brisk_parse.specs.Outcomes.{Outcome, Parser, and_then, Stops}
 use Rattle.brisk_parse.specs.Reading.{many}
 use Rattle.brisk_parse.proofs.Outcomes.{stops_then, stops_alike}
-
-followed_by-nothing : (a : Items) → a followed_by nothing ≡ a
-followed_by-nothing nothing = refl
-followed_by-nothing (q ⨟ a) = ap (λ b. q ⨟ b) (followed_by-nothing a)
-
-followed_by_assoc : (a b c : Items) → (a followed_by b) followed_by c ≡ a followed_by (b followed_by c)
-followed_by_assoc nothing b c = refl
-followed_by_assoc (q ⨟ a) b c = ap (λ d. q ⨟ d) (followed_by_assoc a b c)
 
 pub items_of-append : (a b : List Seq) → items_of (a ++ b) ≡ items_of a followed_by items_of b
 items_of-append [] b = refl

@@ -1,0 +1,33 @@
+-- The headline: what is written for a source is faithful to the processes that it holds.
+use Rattle.std.specs.Prelude.{◌≡◌, List, Option, Some, Ok}
+use Rattle.brisk_io.specs.Causes.{Files}
+use Rattle.brisk_lex.specs.declared.token.Placed.{Placed}
+use Rattle.brisk_lex.specs.Tokens.{tokens}
+use Rattle.brisk_parse.specs.Within.{Denotes}
+use Rattle.brisk_print.specs.Layout as layout
+use Rattle.brisk_syntax.specs.declared.program.Program.{Program}
+use Rattle.brisk_syntax.specs.WellTyped.{IsProgramWellTyped}
+use Rattle.brisk_seq.specs.declared.tree.SeqProgram.{SeqProgram}
+use Rattle.brisk_loops.specs.Faithful.{Faithful}
+use Rattle.brisk_cli.specs.declared.status.Status.{Status}
+use Rattle.brisk_cli.specs.declared.status.Status.TheVariants.{Done}
+use Rattle.brisk_cli.specs.Answers.{file_of}
+use Rattle.brisk_cli.specs.Files.{Text, Put}
+
+-- The source holds a well-typed program, and the text is the layout of a sequential program that is faithful to it: no state
+-- of the processes that is reached is deadlocked, and the stores in which they halt are those in which it halts.
+pub record IsFaithful (source text : Text) : Type 0 where
+  pub cut : List Placed
+  pub cuts : tokens source ≡ Ok cut
+  pub program : Program
+  pub holds : Denotes cut program
+  pub typed : IsProgramWellTyped program
+  pub sequential : SeqProgram
+  pub is_layout : text ≡ layout.sequential sequential
+  pub faithful : Faithful program sequential
+
+-- where the status is that of success, the words name a source that is there, and what is written is faithful to it
+abbrev pub Headline : List Text → Option Files → Option Text → Option Text → Status → Type 0
+Headline words (Some files) old new Done =
+    (name : Text) × (source : Text) × (text : Text) × (file_of words ≡ Some name) × (files name ≡ Some source) × IsFaithful source text × Put old new text
+Headline words files old new status = Unit {0}

@@ -1,6 +1,8 @@
 //! What is known of the variables of processes while a program is rewritten.
 #![tactic(auto)]
 
+mod facts;
 mod laws;
 
+pub use facts::Facts;
 pub use laws::fold_is_value;

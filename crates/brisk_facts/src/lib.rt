@@ -2,6 +2,7 @@
 #![tactic(auto)]
 
 mod facts;
+mod fold;
 mod laws;
 
 pub use facts::Facts;

@@ -1,6 +1,6 @@
 //! Facts as a map from a role and a variable of it to a value.
 ghost use Rattle.std.specs.Prelude.{◌≡◌, [], IfOk, OnOk, OnErr, IsOk, IsSome};
-ghost use Rattle.brisk_facts.specs.Facts.{fact, with_fact, without_fact};
+ghost use Rattle.brisk_facts.specs.Facts.{fact, with_fact, without_fact, is_fact, common};
 
 use brisk_values::{Name, NoMemory, Value};
 use std::alloc::Global;
@@ -62,6 +62,22 @@ impl Facts {
         ensures { self.new ≡ without_fact at variable self.old }
     {
         self.entries.remove(&(at, variable));
+    }
+
+    /// Keeps the facts that both have, with the same value.
+    pub fn keep_common(&mut self, other: &Facts)
+        ensures { self.new ≡ common self.old other.now }
+    {
+        self.entries.retain(|place, value| other.has(place, value));
+    }
+
+    fn has(&self, place: &(Name, Name), value: &Value) -> bool
+        ensures { result ≡ is_fact self.now (place.now, value.now) }
+    {
+        match self.get(place.0, place.1) {
+            Some(known) => known == *value,
+            None => false,
+        }
     }
 
     /// The same facts.

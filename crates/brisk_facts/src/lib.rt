@@ -4,6 +4,7 @@
 mod facts;
 mod fold;
 mod laws;
+mod learn;
 
 pub use facts::Facts;
 pub use laws::fold_is_value;

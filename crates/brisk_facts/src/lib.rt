@@ -5,6 +5,8 @@ mod facts;
 mod fold;
 mod laws;
 mod learn;
+#[cfg(test)]
+mod tests;
 
 pub use facts::Facts;
 pub use laws::fold_is_value;

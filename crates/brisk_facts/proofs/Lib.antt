@@ -1,1 +1,3 @@
+pub mod Common
 pub mod Folding
+pub mod Places

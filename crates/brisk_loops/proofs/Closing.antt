@@ -25,7 +25,8 @@ use Rattle.brisk_derivtext.specs.declared.steps.Fact.{Fact}
 use Rattle.brisk_loops.specs.Rules.{without_drops, looks_at, looks_at_key, looks_at_code, Owner, Entered, unless, first_fault, code_in, unfinished, not_restored, close_tests, after_close, fault_or, close}
 use Rattle.brisk_loops.proofs.Events.{exact_key}
 use Rattle.brisk_loops.proofs.Learn.{equal_values}
-use Rattle.brisk_loops.proofs.Lookups.{place_total, exact_place, exact_key_cmp}
+use Rattle.brisk_facts.proofs.Places.{place_total, exact_places}
+use Rattle.brisk_loops.proofs.Lookups.{exact_key_cmp}
 use Rattle.brisk_loops.proofs.Threads.{names, codes}
 
 -- the tests that a close makes, each passed
@@ -109,7 +110,7 @@ kept_numbers test P Q e k is = sym (numbers_where test Q k is) ∙ ap (λ (R : P
 
 -- the facts at the places that pass a test
 pub fact_where : (test : Place → Bool) (F : Facts) (u x : Name) → fact (facts_where test F) u x ≡ cond (test (u, x)) (fact F u x) None
-fact_where test F u x = find-where_key place_cmp test (u, x) (λ q e. ap test (sym (exact_place (u, x) q e))) F
+fact_where test F u x = find-where_key place_cmp test (u, x) (λ q e. ap test (sym (exact_places (u, x) q e))) F
 
 -- what is found passes each test of all
 found : (h : Place × Value → Bool) (F : Facts) (q : Place) (v : Value) → list_all h F ≡ true → find place_cmp q F ≡ Some v → h (q, v) ≡ true
@@ -117,7 +118,7 @@ found h [] q v a e = cc
 found h (y ∷ F) q v a e =
     let b = both_true (h y) (list_all h F) a in
     elim (eq_by_cmp place_cmp q y.0) as (λ t. eq_by_cmp place_cmp q y.0 ≡ t → cond t (Some y.1) (find place_cmp q F) ≡ Some v → h (q, v) ≡ true) [
-      | true ↦ λ t g. (let w : y.1 ≡ v = cc in let k = exact_place q y.0 (equal (place_cmp q y.0) t) in (λ i. h (k i, sym w i)) ∙ b.0)
+      | true ↦ λ t g. (let w : y.1 ≡ v = cc in let k = exact_places q y.0 (equal (place_cmp q y.0) t) in (λ i. h (k i, sym w i)) ∙ b.0)
       | false ↦ λ t g. found h F q v b.1 g
     ] refl e
   where

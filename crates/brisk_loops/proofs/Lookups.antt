@@ -15,12 +15,10 @@ use Rattle.brisk_values.specs.Functions.{changed}
 use Rattle.brisk_values.specs.Names.{Name, same_name}
 use Rattle.brisk_values.proofs.Changes.{name_laws, exact_name, changed_again, changed-same}
 use Rattle.brisk_facts.specs.Facts.{Place, place_cmp, Facts, fact, with_value, with_values, without_fact, without_facts}
+use Rattle.brisk_facts.proofs.Places.{place_total, exact_places, same_place}
 use Rattle.brisk_state.specs.Symbolic.{Key, key_cmp, same_key, Pending, numbers_at, with_numbers, or_none}
 use Rattle.brisk_loops.proofs.Loops.{facts_back}
 use Rattle.brisk_loops.proofs.Readings.{facts_with, forgotten}
-
-pub place_total : IsTotalOrder place_cmp
-place_total = then_total (on_total (λ (k : Place). k.0) nat_list_cmp_total) (on_total (λ (k : Place). k.1) nat_list_cmp_total)
 
 key_total : IsTotalOrder key_cmp
 key_total =
@@ -36,14 +34,9 @@ and_assoc : (a b c : Bool) → (a && (b && c)) ≡ ((a && b) && c)
 and_assoc true b c = refl
 and_assoc false b c = refl
 
-same_place : Place → Place → Bool
-same_place a b = same_name a.0 b.0 && same_name a.1 b.1
-
 -- places that compare alike are the same
 place_ties : (at x at' x' : Name) → eq_by_cmp place_cmp (at', x') (at, x) ≡ (same_name at at' && same_name x x')
-place_ties at x at' x' =
-    is_eq-then (slice_cmp nat_cmp at' at) (slice_cmp nat_cmp x' x)
-    ∙ (λ i. (sym (texts_ties at' at) ∙ name_laws.symm at' at) i && (sym (texts_ties x' x) ∙ name_laws.symm x' x) i)
+place_ties at x at' x' = same_place (at', x') (at, x) ∙ (λ i. name_laws.symm at' at i && name_laws.symm x' x i)
 
 key_ties : (k l : Key) → eq_by_cmp key_cmp l k ≡ same_key k l
 key_ties k l =
@@ -52,9 +45,6 @@ key_ties k l =
     ∙ and_assoc (is_eq (slice_cmp nat_cmp l.from k.from)) (is_eq (slice_cmp nat_cmp l.to k.to)) (is_eq (slice_cmp nat_cmp l.channel k.channel))
     ∙ (λ i. ((sym (texts_ties l.from k.from) ∙ name_laws.symm l.from k.from) i && (sym (texts_ties l.to k.to) ∙ name_laws.symm l.to k.to) i)
     && (sym (texts_ties l.channel k.channel) ∙ name_laws.symm l.channel k.channel) i)
-
-pub exact_place : (a b : Place) → place_cmp a b ≡ Equal → a ≡ b
-exact_place = exact_pairs (slice_cmp nat_cmp) (slice_cmp nat_cmp) exact_bytes exact_bytes
 
 abbrev Parts : Type 0
 Parts = Name × (Name × Name)
@@ -74,7 +64,7 @@ value_at : (at x : Name) (o : Option Value) (F : Facts) (at' x' : Name) →
     fact (with_value at x o F) at' x' ≡ (if same_name at at' && same_name x x' then o else fact F at' x')
 value_at at x None F at' x' =
     find-where_key place_cmp (λ q. not (same_name at q.0 && same_name x q.1)) (at', x')
-    (λ q e. ap (λ (z : Place). not (same_name at z.0 && same_name x z.1)) (sym (exact_place (at', x') q e))) F
+    (λ q e. ap (λ (z : Place). not (same_name at z.0 && same_name x z.1)) (sym (exact_places (at', x') q e))) F
     ∙ turned (same_name at at' && same_name x x') (fact F at' x') None
 value_at at x (Some v) F at' x' =
     find-put place_cmp place_total (at', x') (at, x) v F ∙ ap (λ b. cond b (Some v) (fact F at' x')) (place_ties at x at' x')

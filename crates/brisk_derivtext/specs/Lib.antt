@@ -1,3 +1,4 @@
+pub mod Counts
 pub mod Depths
 pub mod Falls
 pub mod Seen

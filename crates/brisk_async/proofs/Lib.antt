@@ -1,6 +1,7 @@
 pub mod Alone
 pub mod Begins
 pub mod Changed
+pub mod Events
 pub mod Expressions
 pub mod Heads
 pub mod Kinded

@@ -1,4 +1,5 @@
 pub mod Acts
+pub mod Blocked
 pub mod Effects
 pub mod Keys
 pub mod Kinds

@@ -1,17 +1,21 @@
 //! What each process has left to do.
-ghost use Rattle.std.specs.Prelude.{◌≡◌, IsSome, IsTrue, ◌↔◌, All, option_and_then};
+ghost use Rattle.std.specs.Prelude.{◌≡◌, IsSome, IsTrue, ◌↔◌, All, Some, option_and_then};
 ghost use Rattle.std.specs.BTreeMap as tree;
 ghost use Rattle.brisk_values.specs.Places.{process_cmp};
 ghost use Rattle.brisk_syntax.specs.Syntax.{done};
 ghost use Rattle.std.specs.Option.{option_copied};
 ghost use Rattle.std.specs.FinMap as map;
 ghost use Rattle.brisk_syntax.specs.Segments.{head_of, or_done};
+ghost use Rattle.brisk_syntax.specs.Value.{size_in};
+ghost use Rattle.brisk_async.specs.Blocked.{IsBlocked};
 ghost use Rattle.brisk_async.specs.Effects.{next_of};
-ghost use Rattle.brisk_async.specs.Keys.{code_in_map};
+ghost use Rattle.brisk_async.specs.Keys.{code_in_map, mail_in};
 ghost use Rattle.brisk_values.specs.declared.value.Pid.{Pid as Process};
 
+use crate::blocked::is_blocked;
+use crate::mail::Mail;
 use brisk_syntax::Code;
-use brisk_values::Pid;
+use brisk_values::{Pid, Sizes};
 use std::collections::BTreeMap;
 use std::marker::Model;
 
@@ -54,6 +58,13 @@ impl Codes {
         all_done(&self.codes)
     }
 
+    /// Whether no process has an event.
+    pub fn are_blocked(&self, sizes: &Sizes, mail: &Mail) -> bool
+        ensures { IsTrue result ↔ ((p : Process) → IsBlocked (size_in sizes.now) (mail_in mail.now) p (head_of (code_in_map self.now p))) }
+    {
+        all_blocked(&self.codes, sizes, mail)
+    }
+
     /// Puts the next code of a process.
     pub fn put(&mut self, process: &Pid, next: Next)
         requires { IsSome (option_and_then head_of (map.get self.old process.now)) }
@@ -71,6 +82,16 @@ fn all_done(codes: &BTreeMap<Pid, Code>) -> bool
     ensures ordered { tree.IsOrdered process_cmp codes.now }
 {
     codes.values().all(|code| is_empty(code))
+}
+
+// Whether no process has an event.
+fn all_blocked(codes: &BTreeMap<Pid, Code>, sizes: &Sizes, mail: &Mail) -> bool
+    ensures blocked { IsTrue result ↔ All (λ e. IsBlocked (size_in sizes.now) (mail_in mail.now) e.0 (head_of e.1)) codes.now.entries }
+    ensures found { All (λ e. tree.get process_cmp codes.now e.0 ≡ Some e.1) codes.now.entries }
+{
+    codes
+        .iter()
+        .all(|(process, code)| is_blocked(sizes, mail, process, code))
 }
 
 // Whether the code is empty.

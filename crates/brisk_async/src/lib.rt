@@ -1,6 +1,7 @@
 //! The machine of asynchronous processes.
 #![tactic(auto)]
 
+mod blocked;
 mod changes;
 mod codes;
 mod effect;

@@ -8,7 +8,7 @@ ghost use Rattle.brisk_syntax.specs.Statements.{statement_of};
 ghost use Rattle.brisk_syntax.specs.Syntax.{Code as Tree, ◌⨾◌};
 ghost use Rattle.brisk_async.specs.Acts.{effect_if, effect_of};
 ghost use Rattle.brisk_async.specs.Keys.{code_in_map, mail_in, queue_of};
-ghost use Rattle.brisk_async.specs.Machine.{IsHalted, after, effect, effect_in, payload_at, seen_by, step};
+ghost use Rattle.brisk_async.specs.Machine.{IsDeadlocked, IsHalted, IsTerminal, after, effect, effect_in, payload_at, seen_by, step};
 ghost use Rattle.brisk_async.specs.Refusals.{queue_refusal, refusal, refusal_at};
 ghost use Rattle.brisk_async.specs.States.{is_process, state_of};
 ghost use Rattle.brisk_syntax.specs.Value.{size_in};
@@ -70,6 +70,20 @@ impl Machine {
         ensures { IsTrue result ↔ IsHalted (state_of self.now) }
     {
         self.codes.are_done()
+    }
+
+    /// Whether no event has a next state, and some process has something left to do.
+    pub fn is_deadlocked(&self) -> bool
+        ensures { IsTrue result ↔ IsDeadlocked (state_of self.now) }
+    {
+        self.is_terminal() && !self.is_halted()
+    }
+
+    // Whether no event has a next state.
+    fn is_terminal(&self) -> bool
+        ensures { IsTrue result ↔ IsTerminal (state_of self.now) }
+    {
+        self.codes.are_blocked(&self.sizes, &self.mail)
     }
 
     // What the event does, from the code of its process.

@@ -14,3 +14,4 @@ pub mod Queues
 pub mod Refused
 pub mod Runs
 pub mod Senders
+pub mod Started

@@ -1,6 +1,8 @@
 pub mod Acts
+pub mod Begun
 pub mod Blocked
 pub mod Effects
+pub mod Given
 pub mod Keys
 pub mod Kinds
 pub mod Laws

@@ -1,5 +1,5 @@
 //! What each process has left to do.
-ghost use Rattle.std.specs.Prelude.{◌≡◌, IsSome, IsTrue, ◌↔◌, All, Some, option_and_then};
+ghost use Rattle.std.specs.Prelude.{◌≡◌, IsSome, IsTrue, OnOk, ◌↔◌, All, Some, option_and_then};
 ghost use Rattle.std.specs.BTreeMap as tree;
 ghost use Rattle.brisk_values.specs.Places.{process_cmp};
 ghost use Rattle.brisk_syntax.specs.Syntax.{done};
@@ -15,7 +15,8 @@ ghost use Rattle.brisk_values.specs.declared.value.Pid.{Pid as Process};
 use crate::blocked::is_blocked;
 use crate::mail::Mail;
 use brisk_syntax::Code;
-use brisk_values::{Pid, Sizes};
+use brisk_values::{NoMemory, Pid, Sizes};
+use std::alloc::Global;
 use std::collections::BTreeMap;
 use std::marker::Model;
 
@@ -44,6 +45,23 @@ impl Model for Codes {
 }
 
 impl Codes {
+    /// No codes.
+    pub fn new(alloc: Global) -> Codes
+        ensures { result ≡ map.empty }
+    {
+        Codes {
+            codes: BTreeMap::new(alloc),
+        }
+    }
+
+    /// Puts the code of a process.
+    pub fn add(&mut self, process: Pid, code: Code) -> Result<(), NoMemory>
+        ensures { OnOk result (self.new ≡ map.insert self.old process code) }
+    {
+        self.codes.insert(process, code)?;
+        Ok(())
+    }
+
     /// The code of a process, if it is in the instance.
     pub fn get(&self, process: &Pid) -> Option<&Code>
         ensures { option_copied result ≡ map.get self.now process.now }

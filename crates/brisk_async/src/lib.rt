@@ -4,12 +4,14 @@
 mod blocked;
 mod changes;
 mod codes;
+mod copies;
 mod effect;
 mod event;
 mod fault;
 mod laws;
 mod machine;
 mod mail;
+mod start;
 
 pub use event::Event;
 pub use fault::StepFault;

@@ -13,5 +13,6 @@ pub mod Payloads
 pub mod Queues
 pub mod Refused
 pub mod Runs
+pub mod Sampled
 pub mod Senders
 pub mod Started

@@ -9,5 +9,6 @@ pub mod Laws
 pub mod Machine
 pub mod PlainRuns
 pub mod Refusals
+pub mod Sample
 pub mod States
 pub mod There

@@ -12,6 +12,8 @@ mod laws;
 mod machine;
 mod mail;
 mod start;
+#[cfg(test)]
+mod tests;
 
 pub use event::Event;
 pub use fault::StepFault;

@@ -1,6 +1,7 @@
 pub mod Alone
 pub mod Begins
 pub mod Changed
+pub mod Events
 pub mod Expressions
 pub mod Heads
 pub mod Kinded
@@ -12,4 +13,6 @@ pub mod Payloads
 pub mod Queues
 pub mod Refused
 pub mod Runs
+pub mod Sampled
 pub mod Senders
+pub mod Started

@@ -72,7 +72,7 @@ one_queue m k ms = λ i q.
     inside true o = refl
     inside false o = refl
 
-same_pid : (p q : Pid) → eq_by_cmp process_cmp q p ≡ same_process p q
+pub same_pid : (p q : Pid) → eq_by_cmp process_cmp q p ≡ same_process p q
 same_pid p q = both_ways _ _
     (λ e. ap (same_process p) (tells_apart exact_processes q p e) ∙ process_laws.refl p)
     (λ e. ap (λ z. eq_by_cmp process_cmp z p) (sym (exact_process p q e)) ∙ (eq_by_cmp_equiv process_total).refl p)

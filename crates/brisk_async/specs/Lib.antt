@@ -1,10 +1,14 @@
 pub mod Acts
+pub mod Begun
+pub mod Blocked
 pub mod Effects
+pub mod Given
 pub mod Keys
 pub mod Kinds
 pub mod Laws
 pub mod Machine
 pub mod PlainRuns
 pub mod Refusals
+pub mod Sample
 pub mod States
 pub mod There

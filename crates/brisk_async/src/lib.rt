@@ -1,14 +1,19 @@
 //! The machine of asynchronous processes.
 #![tactic(auto)]
 
+mod blocked;
 mod changes;
 mod codes;
+mod copies;
 mod effect;
 mod event;
 mod fault;
 mod laws;
 mod machine;
 mod mail;
+mod start;
+#[cfg(test)]
+mod tests;
 
 pub use event::Event;
 pub use fault::StepFault;

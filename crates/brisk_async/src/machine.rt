@@ -7,20 +7,24 @@ ghost use Rattle.brisk_syntax.specs.Segments.{head_of};
 ghost use Rattle.brisk_syntax.specs.Statements.{statement_of};
 ghost use Rattle.brisk_syntax.specs.Syntax.{Code as Tree, ◌⨾◌};
 ghost use Rattle.brisk_async.specs.Acts.{effect_if, effect_of};
+ghost use Rattle.brisk_async.specs.Given.{FitsAsGiven, instance_of};
 ghost use Rattle.brisk_async.specs.Keys.{code_in_map, mail_in, queue_of};
-ghost use Rattle.brisk_async.specs.Machine.{IsHalted, after, effect, effect_in, payload_at, seen_by, step};
+ghost use Rattle.brisk_async.specs.Machine.{IsDeadlocked, IsHalted, IsTerminal, after, effect, effect_in, payload_at, seen_by, start, step};
 ghost use Rattle.brisk_async.specs.Refusals.{queue_refusal, refusal, refusal_at};
 ghost use Rattle.brisk_async.specs.States.{is_process, state_of};
 ghost use Rattle.brisk_syntax.specs.Value.{size_in};
+ghost use Rattle.brisk_syntax.specs.WellTyped.{IsProgramWellTyped};
 
 use crate::changes::make_change;
 use crate::codes::{Codes, Next};
+use crate::copies::{copy_program, copy_sizes};
 use crate::effect::{Act, is_loose, is_member, partner, plain, receive, replaced};
 use crate::event::Event;
 use crate::fault::StepFault;
 use crate::mail::{Key, Mail};
+use crate::start::{start_codes, start_store};
 use brisk_syntax::{Code, Program, Stmt, Who, subst};
-use brisk_values::{NoMemory, Pid, Sizes, Store};
+use brisk_values::{Instance, NoMemory, Pid, Sizes, Store};
 use std::alloc::Global;
 use std::marker::Model;
 use std::rc::Rc;
@@ -49,6 +53,24 @@ impl Model for Machine {
 }
 
 impl Machine {
+    /// The start of the instance, whatever its weight.
+    pub fn begin(alloc: Global, program: &Program, instance: &Instance) -> Result<Machine, NoMemory>
+        requires typed { IsProgramWellTyped program.now }
+        requires fits { FitsAsGiven program.now instance.now }
+        ensures { IfOk result (λ m. state_of m ≡ start program.now (instance_of instance.now)) }
+    {
+        let codes = start_codes(alloc, &program.roles, &instance.sizes)?;
+        let store = start_store(alloc, &program.roles, &instance.sizes, &instance.inputs)?;
+        Ok(Machine {
+            alloc,
+            program: copy_program(alloc, program)?,
+            sizes: copy_sizes(alloc, &instance.sizes)?,
+            codes,
+            store,
+            mail: Mail::new(alloc),
+        })
+    }
+
     /// The store.
     pub fn store(&self) -> &Store
         ensures { result.now ≡ self.now.store }
@@ -70,6 +92,20 @@ impl Machine {
         ensures { IsTrue result ↔ IsHalted (state_of self.now) }
     {
         self.codes.are_done()
+    }
+
+    /// Whether no event has a next state, and some process has something left to do.
+    pub fn is_deadlocked(&self) -> bool
+        ensures { IsTrue result ↔ IsDeadlocked (state_of self.now) }
+    {
+        self.is_terminal() && !self.is_halted()
+    }
+
+    // Whether no event has a next state.
+    fn is_terminal(&self) -> bool
+        ensures { IsTrue result ↔ IsTerminal (state_of self.now) }
+    {
+        self.codes.are_blocked(&self.sizes, &self.mail)
     }
 
     // What the event does, from the code of its process.

@@ -1,5 +1,5 @@
 //! Mail: for each sender, receiver and channel the payloads that wait, the oldest first.
-ghost use Rattle.std.specs.Prelude.{◌≡◌, ◌∷◌, [], ◌++◌, OnOk, OnErr, IsSome, option_map};
+ghost use Rattle.std.specs.Prelude.{◌≡◌, ◌∷◌, [], ◌++◌, OnOk, OnErr, IsSome, IsTrue, ◌↔◌, option_map};
 ghost use Rattle.std.specs.Option.{option_copied};
 ghost use Rattle.brisk_values.specs.Functions.{changed};
 ghost use Rattle.brisk_async.specs.Machine.{same_queue, payload_at, without};
@@ -125,6 +125,13 @@ impl Mail {
             None => None,
             Some(waiting) => waiting.payload(place),
         }
+    }
+
+    /// Whether no payload waits in the queue.
+    pub fn is_empty(&self, key: &Key) -> bool
+        ensures { IsTrue result ↔ (mail_in self.now (queue_of key.now) ≡ []) }
+    {
+        self.payload(key, 0).is_none()
     }
 
     /// Puts the payload at the end of the queue.

@@ -1,0 +1,145 @@
+//! A machine on a small program.
+ghost use Rattle.std.specs.Prelude.{◌≡◌, ◌<◌, ◌≤◌, length, IfOk, [], ◌∷◌};
+ghost use Rattle.brisk_syntax.specs.Statements.{statement_of};
+ghost use Rattle.brisk_syntax.specs.Texts.{text_of};
+ghost use Rattle.brisk_async.specs.Sample.{sample, sender as sender_text, wait as wait_statement, waiter as waiter_text};
+
+use crate::{Event, Machine, StepFault};
+use brisk_syntax::{
+    Block, Channel, Channels, Const, Decl, Decls, Enums, Expr, Exprs, Kinds, Names, Program, Role,
+    Roles, Stmt, Who,
+};
+use brisk_values::{Inputs, Instance, Kind, Name, Pid, Sizes, Value};
+use std::alloc::Global;
+use std::rc::Rc;
+use std::test::Fail;
+
+fn named(bytes: &[u8]) -> Name
+    requires some { 0 < length bytes.now }
+    requires few { length bytes.now ≤ 64 }
+    ensures { result ≡ bytes.now }
+{
+    Name::new(bytes).unwrap()
+}
+
+// `one A { send T(7) to B; }`
+fn sender(alloc: Global) -> Result<Role, Fail>
+    ensures { IfOk result (λ r. text_of r ≡ sender_text) }
+{
+    let exprs = Exprs {
+        items: vec![in alloc; Expr::Num(7)]?,
+    };
+    let code = Block {
+        items: vec![in alloc; Stmt::Send(named(b"T"), exprs, Who::Name(named(b"B")))]?,
+    };
+    Ok(Role {
+        name: named(b"A"),
+        many: false,
+        nonempty: false,
+        decls: Decls {
+            items: Vec::new(alloc),
+        },
+        code: Rc::new(alloc, code)?,
+    })
+}
+
+// `recv T(x) from A;`
+fn wait(alloc: Global) -> Result<Stmt, Fail>
+    ensures { IfOk result (λ s. statement_of s ≡ wait_statement) }
+{
+    let vars = Names {
+        items: vec![in alloc; named(b"x")]?,
+    };
+    Ok(Stmt::Recv(named(b"T"), vars, Who::Name(named(b"A"))))
+}
+
+// `one B { var x : int = 0; recv T(x) from A; recv T(x) from A; }`
+fn waiter(alloc: Global) -> Result<Role, Fail>
+    ensures { IfOk result (λ r. text_of r ≡ waiter_text) }
+{
+    let first = wait(alloc)?;
+    let second = wait(alloc)?;
+    let code = Block {
+        items: vec![in alloc; first, second]?,
+    };
+    Ok(Role {
+        name: named(b"B"),
+        many: false,
+        nonempty: false,
+        decls: Decls {
+            items: vec![in alloc; Decl::Var(named(b"x"), Kind::Int, Const::Num(false, 0))]?,
+        },
+        code: Rc::new(alloc, code)?,
+    })
+}
+
+fn program(alloc: Global) -> Result<Program, Fail>
+    ensures { IfOk result (λ p. p ≡ sample) }
+{
+    let kinds = Kinds {
+        items: vec![in alloc; Kind::Int]?,
+    };
+    let channel = Channel {
+        name: named(b"T"),
+        kinds,
+        loose: false,
+    };
+    let first = sender(alloc)?;
+    let second = waiter(alloc)?;
+    Ok(Program {
+        enums: Enums {
+            items: Vec::new(alloc),
+        },
+        channels: Channels {
+            items: vec![in alloc; channel]?,
+        },
+        roles: Roles {
+            items: vec![in alloc; first, second]?,
+        },
+    })
+}
+
+fn begun(alloc: Global) -> Result<Machine, Fail> {
+    let program = program(alloc)?;
+    let instance = Instance {
+        sizes: Sizes {
+            items: Vec::new(alloc),
+        },
+        inputs: Inputs {
+            items: Vec::new(alloc),
+        },
+    };
+    let machine = Machine::begin(alloc, &program, &instance)?;
+    Ok(machine)
+}
+
+fn process(role: Name) -> Pid {
+    Pid { role, member: 0 }
+}
+
+fn event(role: Name) -> Event {
+    Event {
+        process: process(role),
+        sender: None,
+        place: None,
+    }
+}
+
+#[test]
+fn a_machine_runs_to_its_deadlock(rt: HostRuntime) -> Result<(), Fail> {
+    let mut machine = begun(rt.alloc())?;
+    let a = event(named(b"A"));
+    let b = event(named(b"B"));
+    assert!(rt; machine.code(process(named(b"C"))).is_none());
+    assert!(rt; machine.enabled(&a));
+    assert_eq!(rt; machine.step(&b), Err(StepFault::Blocked));
+    assert!(rt; !machine.is_deadlocked());
+    machine.step(&a)?;
+    assert!(rt; !machine.enabled(&a));
+    machine.step(&b)?;
+    assert!(rt; machine.is_deadlocked());
+    assert!(rt; !machine.is_halted());
+    let x = machine.store().get(process(named(b"B")), named(b"x"));
+    assert_eq!(rt; x, Some(Value::Int(7)));
+    Ok(())
+}

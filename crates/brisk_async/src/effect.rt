@@ -1,6 +1,5 @@
 //! What an event does, found without changing the machine.
 ghost use Rattle.std.specs.Prelude.{◌≡◌, IfOk, IsSome, false, ℕ, Bool, Option as Opt, ◌+◌, if◌then◌else◌, nat_lt, map};
-ghost use Rattle.brisk_values.specs.declared.value.Value.{Value as Val};
 ghost use Rattle.brisk_values.specs.Names.{Name as Bytes, member};
 ghost use Rattle.brisk_syntax.specs.Stores.{is_true as is_true_value};
 ghost use Rattle.brisk_syntax.specs.Substitution.{code_with};
@@ -11,16 +10,15 @@ ghost use Rattle.brisk_syntax.specs.Statements.{statement_of};
 ghost use Rattle.brisk_syntax.specs.Expressions.{expression_of};
 ghost use Rattle.brisk_syntax.specs.Syntax.{Code as Tree, ◌⨾◌, ◌then◌, For, Repeat};
 ghost use Rattle.brisk_syntax.specs.Value.{value_of, size_in};
-ghost use Rattle.brisk_async.specs.Machine.{Queue, Payload as Paid, partner as partner_of, is_member as is_member_of, effect, receives, payload_at};
-ghost use Rattle.brisk_async.specs.Keys.{mail_in, queue_of};
+ghost use Rattle.brisk_async.specs.Machine.{Queue, Payload as Paid, partner as partner_of, is_member as is_member_of, effect};
 ghost use Rattle.brisk_async.specs.Effects.{next_of, looks};
 ghost use Rattle.brisk_async.specs.Acts.{effect_if, is_receive};
 
 use crate::codes::Next;
-use crate::mail::{Key, Mail, Payload};
+use crate::mail::{Key, Payload};
 use brisk_syntax::{
-    Block, Channels, Code, Exprs, Loop, Names, Stmt, Turns, Who, copy_code, copy_names, eval,
-    size_of_set, subst,
+    Block, Channels, Code, Exprs, Loop, Names, Stmt, Turns, Who, copy_code, eval, size_of_set,
+    subst,
 };
 use brisk_values::{Name, NoMemory, Pid, Sizes, Store, Value, same_name};
 use std::alloc::Global;
@@ -235,45 +233,5 @@ fn is_true(value: Value) -> bool
     match value {
         Value::Bool(b) => b,
         _ => false,
-    }
-}
-
-// What a receive from the queue does, if it can.
-pub fn receive(
-    alloc: Global,
-    mail: &Mail,
-    channels: &Channels,
-    key: &Key,
-    vars: &Names,
-    next: Next,
-    place: Option<u32>,
-) -> Result<Option<Act>, NoMemory>
-    ensures { IfOk result (λ a. (c : Tree) (sizes : Bytes → ℕ) (own : Bytes → Opt Val) → effect_if c a ≡ receives (looks sizes (is_loose_in channels.now) own (λ q. payload_at (mail_in mail.now q))) (queue_of key.now) vars.now (next_of next c) place) }
-{
-    let place = match place {
-        None => {
-            if is_loose(channels, &key.channel) {
-                return Ok(None);
-            }
-            0
-        }
-        Some(k) => {
-            if !is_loose(channels, &key.channel) {
-                return Ok(None);
-            }
-            k
-        }
-    };
-    match mail.payload(key, place) {
-        None => Ok(None),
-        Some(payload) => {
-            let payload = Payload {
-                items: Vec::from_slice(alloc, &payload.items)?,
-            };
-            Ok(Some(Act {
-                next,
-                change: Change::Takes(*key, place, copy_names(alloc, vars)?, payload),
-            }))
-        }
     }
 }

@@ -1,15 +1,18 @@
 //! The machine: the state of an instance, which events change.
-ghost use Rattle.std.specs.Prelude.{◌≡◌, IfOk, IfErr, IfSome, is_some, OnOk, OnErr, IsSome, IsTrue, Some, None, ◌⊎◌, ◌↔◌, option_and_then};
+ghost use Rattle.std.specs.Prelude.{◌≡◌, ℕ, Option as Opt, IfOk, IfErr, IfSome, is_some, OnOk, OnErr, IsSome, IsTrue, Some, None, ◌⊎◌, ◌↔◌, option_and_then};
 ghost use Rattle.std.specs.Option.{option_copied};
 ghost use Rattle.std.specs.FinMap as map;
+ghost use Rattle.brisk_values.specs.declared.value.Value.{Value as Val};
+ghost use Rattle.brisk_values.specs.Names.{Name as Bytes};
 ghost use Rattle.brisk_syntax.specs.Declarations.{is_loose as is_loose_in};
 ghost use Rattle.brisk_syntax.specs.Segments.{head_of};
 ghost use Rattle.brisk_syntax.specs.Statements.{statement_of};
 ghost use Rattle.brisk_syntax.specs.Syntax.{Code as Tree, ◌⨾◌};
 ghost use Rattle.brisk_async.specs.Acts.{effect_if, effect_of};
+ghost use Rattle.brisk_async.specs.Effects.{looks, next_of};
 ghost use Rattle.brisk_async.specs.Given.{FitsAsGiven, instance_of};
 ghost use Rattle.brisk_async.specs.Keys.{code_in_map, mail_in, queue_of};
-ghost use Rattle.brisk_async.specs.Machine.{IsDeadlocked, IsHalted, IsTerminal, after, effect, effect_in, payload_at, seen_by, start, step};
+ghost use Rattle.brisk_async.specs.Machine.{IsDeadlocked, IsHalted, IsTerminal, after, effect, effect_in, payload_at, receives, seen_by, start, step};
 ghost use Rattle.brisk_async.specs.Refusals.{queue_refusal, refusal, refusal_at};
 ghost use Rattle.brisk_async.specs.States.{is_process, state_of};
 ghost use Rattle.brisk_syntax.specs.Value.{size_in};
@@ -18,12 +21,12 @@ ghost use Rattle.brisk_syntax.specs.WellTyped.{IsProgramWellTyped};
 use crate::changes::make_change;
 use crate::codes::{Codes, Next};
 use crate::copies::{copy_program, copy_sizes};
-use crate::effect::{Act, is_loose, is_member, partner, plain, receive, replaced};
+use crate::effect::{Act, Change, is_loose, is_member, partner, plain, replaced};
 use crate::event::Event;
 use crate::fault::StepFault;
-use crate::mail::{Key, Mail};
+use crate::mail::{Key, Mail, Payload};
 use crate::start::{start_codes, start_store};
-use brisk_syntax::{Code, Program, Stmt, Who, subst};
+use brisk_syntax::{Code, Names, Program, Stmt, Who, copy_names, subst};
 use brisk_values::{Instance, NoMemory, Pid, Sizes, Store};
 use std::alloc::Global;
 use std::marker::Model;
@@ -108,6 +111,46 @@ impl Machine {
         self.codes.are_blocked(&self.sizes, &self.mail)
     }
 
+    // What a receive from the queue does, if it can.
+    fn receive(
+        &self,
+        key: &Key,
+        vars: &Names,
+        next: Next,
+        place: Option<u32>,
+    ) -> Result<Option<Act>, NoMemory>
+        ensures { IfOk result (λ a. (c : Tree) (sizes : Bytes → ℕ) (own : Bytes → Opt Val) → effect_if c a ≡ receives (looks sizes (is_loose_in self.now.program.channels) own (λ q. payload_at (mail_in self.now.mail q))) (queue_of key.now) vars.now (next_of next c) place) }
+    {
+        let loose = is_loose(&self.program.channels, &key.channel);
+        let place = match place {
+            None => {
+                if loose {
+                    return Ok(None);
+                }
+                0
+            }
+            Some(k) => {
+                if !loose {
+                    return Ok(None);
+                }
+                k
+            }
+        };
+        match self.mail.payload(key, place) {
+            None => Ok(None),
+            Some(payload) => {
+                let payload = Payload {
+                    items: Vec::from_slice(self.alloc, &payload.items)?,
+                };
+                let vars = copy_names(self.alloc, vars)?;
+                Ok(Some(Act {
+                    next,
+                    change: Change::Takes(*key, place, vars, payload),
+                }))
+            }
+        }
+    }
+
     // What the event does, from the code of its process.
     fn act(&self, code: &Code, event: &Event) -> Result<Option<Act>, NoMemory>
         ensures { IfOk result (λ a. effect_if code.now a ≡ effect (seen_by (state_of self.now) event.now.process) event.now.process code.now event.now.sender event.now.place) }
@@ -125,15 +168,7 @@ impl Machine {
                     to: event.process,
                     channel: *channel,
                 };
-                receive(
-                    self.alloc,
-                    &self.mail,
-                    &self.program.channels,
-                    &key,
-                    vars,
-                    Next::Rest,
-                    event.place,
-                )
+                self.receive(&key, vars, Next::Rest, event.place)
             }
             Stmt::RecvAny(any) => {
                 let Some(sender) = event.sender else {
@@ -150,15 +185,7 @@ impl Machine {
                     to: event.process,
                     channel: any.channel,
                 };
-                receive(
-                    self.alloc,
-                    &self.mail,
-                    &self.program.channels,
-                    &key,
-                    &any.vars,
-                    next,
-                    event.place,
-                )
+                self.receive(&key, &any.vars, next, event.place)
             }
             _ => {
                 if event.sender.is_some() || event.place.is_some() {

@@ -50,8 +50,8 @@ none_of_all σ φ mode wanted passed [] once h = tt
 none_of_all σ φ mode wanted passed (t ∷ ts) once h = (h t once.0 once.2, none_of_all σ φ mode wanted (with_test passed t) ts once.3 h)
 
 module _ (world : World) (T : Typing world) where
-  -- what was reached in a premise, and then from its end
-  module _ (S S1 E Z : Reading) (κ κ1 : Pid → Code) (φ ψ : Focus) (c c1 d : Conf) (past : List Event) (s : State) (by : List Event) (runs : run (state world c) by ≡ Some (state world d)) (still : Still world S.mode φ c d)
+  -- what was reached from there, after what led there
+  module _ (S Z : Reading) (κ : Pid → Code) (φ : Focus) (c d : Conf) (past : List Event) (s : State) (by : List Event) (runs : run (state world c) by ≡ Some (state world d)) (still : Still world S.mode φ c d)
       (v : Unfolding) (shown : Shown past s v (state world d)) where
     from_there : (w : Unfolding) → Reached world T S Z κ φ d v.events shown.comes w → Reached world T S Z κ φ c past s w
     from_there w y = record {
@@ -114,7 +114,7 @@ module _ (world : World) (T : Typing world) where
         let a = loop.comes world T S s ts L R E entry exit sound κ φ picks k inside c y.to y.by mid x y.arrives in
         let there = shown_then u.events z u' (state world x.to) began v (state world y.to) y.shown in
         gives_map (Reached world T S (after_for S s ts L E) κ φ y.to v.events there.comes) _ (turns_each left (k + 1) (all_move owned) (λ j. U (in_focus s j φ)) v)
-        (from_there S S E (after_for S s ts L E) κ κ φ φ c c y.to u.events z (x.leads.by ++ y.by) a.runs a.still v there)
+        (from_there S (after_for S s ts L E) κ φ c y.to u.events z (x.leads.by ++ y.by) a.runs a.still v there)
         (unfolds_rounds left (k + 1) (loop.next_turn world T S s ts L R E entry exit sound κ φ picks left k e) y.to (T.runs c y.to (x.leads.by ++ y.by) typed a.runs) a.mid v y.same_mem there.comes there.carries))
 
   pub unfolds_for : (S : Reading) (s : Name) (ts : List Name) (L : Name → Loop) (R : Does) (E : Reading) (entry : Entry S s ts L) (exit : Exit S s ts L E) → Sound world T (for_start S s ts L) R E → (U : Focus → Unfolding → Unfolded) → Unfolds world T (for_start S s ts L) U E →
@@ -182,7 +182,7 @@ module _ (world : World) (T : Typing world) where
         let w = subst (λ (q : Served). gather.Comes world T S t a R E entry exit sound κ φ picks q (k + 1) c y.to x.0) (gather.used_more world T S t a R E entry exit sound κ φ picks m used) x.1 in
         let there : Shown u.events z v (state world y.to) = shown_then u.events z (moves p u) (state world (begun k c)) began v (state world y.to) y.shown in
         gives_map (Reached world T S End κ φ y.to v.events there.comes) (Reached world T S End κ φ c u.events z) (turns left (m ∷ used) v)
-        (from_there S S E End κ κ φ φ c c y.to u.events z x.0 w.runs w.still v there)
+        (from_there S End κ φ c y.to u.events z x.0 w.runs w.still v there)
         (unfolds_turns left (k + 1) (m ∷ used) (omega (arith, e)) (gather.one_fewer world T S t a R E entry exit sound κ φ picks m used left (ltb-true m n inside) fresh g) y.to (T.runs c y.to x.0 typed w.runs) w.mid v y.same_mem there.comes there.carries)))
 
   pub unfolds_gather : (S : Reading) (t : Name) (a : AnyReceive) (R : Does) (E : Reading) → Gathers S t a → Gathered S t a E → Sound world T (gather_start S t a) R E → (U : Focus → Unfolding → Unfolded) → Unfolds world T (gather_start S t a) U E →

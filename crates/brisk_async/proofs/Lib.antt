@@ -10,7 +10,9 @@ pub mod Members
 pub mod Named
 pub mod Orders
 pub mod Payloads
+pub mod Places
 pub mod Queues
+pub mod Ranked
 pub mod Refused
 pub mod Runs
 pub mod Sampled

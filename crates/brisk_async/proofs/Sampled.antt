@@ -16,10 +16,16 @@ sample_typed = record {
     },
     (
       record {
-        decls = record { each = ((refl, refl), tt); apart = refl; no_global = (refl, tt) };
-        code = (((kind.Int ∷ [], refl, (refl, tt), refl), refl), (((kind.Int ∷ [], refl, (refl, tt), refl), refl), tt));
+        decls = record { each = tt; apart = refl; no_global = tt };
+        code = (((kind.Int ∷ [], refl, (refl, tt)), refl), tt);
       },
-      tt,
+      (
+        record {
+          decls = record { each = ((refl, refl), tt); apart = refl; no_global = (refl, tt) };
+          code = (((kind.Int ∷ [], refl, (refl, tt), refl), refl), (((kind.Int ∷ [], refl, (refl, tt), refl), refl), tt));
+        },
+        tt,
+      ),
     ),
   );
 }

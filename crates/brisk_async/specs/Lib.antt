@@ -2,12 +2,13 @@ pub mod Acts
 pub mod Begun
 pub mod Blocked
 pub mod Effects
-pub mod Given
+pub mod InOrder
 pub mod Keys
 pub mod Kinds
 pub mod Laws
 pub mod Machine
 pub mod PlainRuns
+pub mod Ranks
 pub mod Refusals
 pub mod Sample
 pub mod States

@@ -1,17 +1,17 @@
 -- Plain runs, and the schedules that deadlock or overtake.
 use Rattle.std.specs.Prelude.{◌≡◌, ◌≢◌, ℕ, zero, suc, ◌+◌, Bool, false, not, List, [], ◌∷◌, ◌++◌, map, Option, Some, None, option_map, if◌then◌else◌, pos, filter, flat_map}
-use Rattle.std.specs.List.{range_with_len}
 use Rattle.brisk_values.specs.declared.value.Kind.{Kind}
 use Rattle.brisk_values.specs.declared.value.Kind.TheVariants as kind
 use Rattle.brisk_values.specs.declared.value.Pid.{Pid}
 use Rattle.brisk_values.specs.declared.value.Value.{Value}
 use Rattle.brisk_values.specs.declared.value.Value.TheVariants as value
-use Rattle.brisk_values.specs.Names.{Name, same_name, single, member}
+use Rattle.brisk_values.specs.Names.{Name, same_name, single}
 use Rattle.brisk_syntax.specs.declared.program.EnumDecl.{EnumDecl}
 use Rattle.brisk_syntax.specs.declared.program.Program.{Program}
 use Rattle.brisk_syntax.specs.Declarations.{kind_in, role_named, decls_of, is_loose}
 use Rattle.brisk_syntax.specs.Instance.{Instance}
 use Rattle.brisk_syntax.specs.Syntax.{Recv, RecvAny, Repeat, Code, done, ◌⨾◌}
+use Rattle.brisk_instance.specs.Given.{members}
 use Rattle.brisk_async.specs.declared.event.Event.{Event}
 use Rattle.brisk_async.specs.Machine.{State, start, step, run, IsDeadlocked}
 
@@ -36,10 +36,6 @@ plain_instance P k = record {
   size = λ s. k;
   input = λ p x. plain_value P.enums (kind_in (decls_of (role_named P.roles p.role)) x);
 }
-
--- the members of a set of size n, in number order
-abbrev pub members : Name → ℕ → List Pid
-members s n = map (member s) (range_with_len 0 n)
 
 -- the processes in the order of the plain run: the members of sets by declaration and number, and then the single roles
 abbrev pub plain_order : Program → ℕ → List Pid

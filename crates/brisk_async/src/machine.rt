@@ -1,5 +1,5 @@
 //! The machine: the state of an instance, which events change.
-ghost use Rattle.std.specs.Prelude.{◌≡◌, ℕ, Option as Opt, IfOk, IfErr, IfSome, is_some, OnOk, OnErr, IsSome, IsTrue, Some, None, ◌⊎◌, ◌↔◌, option_and_then};
+ghost use Rattle.std.specs.Prelude.{◌≡◌, ℕ, ◌≤◌, Option as Opt, IfOk, IfErr, IfSome, is_none, is_some, OnOk, OnErr, IsSome, IsTrue, Some, None, ◌⊎◌, ◌↔◌, option_and_then};
 ghost use Rattle.std.specs.Option.{option_copied};
 ghost use Rattle.std.specs.FinMap as map;
 ghost use Rattle.brisk_values.specs.declared.value.Value.{Value as Val};
@@ -7,10 +7,13 @@ ghost use Rattle.brisk_values.specs.Names.{Name as Bytes};
 ghost use Rattle.brisk_syntax.specs.Declarations.{is_loose as is_loose_in};
 ghost use Rattle.brisk_syntax.specs.Segments.{head_of};
 ghost use Rattle.brisk_syntax.specs.Statements.{statement_of};
+ghost use Rattle.brisk_syntax.specs.Tokens.{weight};
 ghost use Rattle.brisk_syntax.specs.Syntax.{Code as Tree, ◌⨾◌};
 ghost use Rattle.brisk_async.specs.Acts.{effect_if, effect_of};
 ghost use Rattle.brisk_async.specs.Effects.{looks, next_of};
-ghost use Rattle.brisk_async.specs.Given.{FitsAsGiven, instance_of};
+ghost use Rattle.brisk_async.specs.InOrder.{AreQueues};
+ghost use Rattle.brisk_instance.specs.Causes.{IsCause};
+ghost use Rattle.brisk_instance.specs.Given.{FitsAsGiven, instance_of};
 ghost use Rattle.brisk_async.specs.Keys.{code_in_map, mail_in, queue_of};
 ghost use Rattle.brisk_async.specs.Machine.{IsDeadlocked, IsHalted, IsTerminal, after, effect, effect_in, payload_at, receives, seen_by, start, step};
 ghost use Rattle.brisk_async.specs.Refusals.{queue_refusal, refusal, refusal_at};
@@ -25,7 +28,9 @@ use crate::effect::{Act, Change, is_loose, is_member, partner, plain, replaced};
 use crate::event::Event;
 use crate::fault::StepFault;
 use crate::mail::{Key, Mail, Payload};
-use crate::start::{start_codes, start_store};
+use crate::queue::{Queue, told};
+use crate::start::start_codes;
+use brisk_instance::{StartFault, judge, start_store};
 use brisk_syntax::{Code, Names, Program, Stmt, Who, copy_names, subst};
 use brisk_values::{Instance, NoMemory, Pid, Sizes, Store};
 use std::alloc::Global;
@@ -56,14 +61,29 @@ impl Model for Machine {
 }
 
 impl Machine {
+    /// The start of the instance, where it fits and isn't too heavy.
+    pub fn start(
+        alloc: Global,
+        program: &Program,
+        instance: &Instance,
+    ) -> Result<Machine, StartFault>
+        requires { IsProgramWellTyped program.now }
+        ensures fits { IfOk result (λ _. FitsAsGiven program.now.enums program.now.roles instance.now × (weight program.now.roles (instance_of instance.now) ≤ 2000000)) }
+        ensures start { IfOk result (λ m. state_of m ≡ start program.now (instance_of instance.now)) }
+        ensures err { IfErr result (IsCause program.now.enums program.now.roles instance.now) }
+    {
+        judge(alloc, &program.enums, &program.roles, instance)?;
+        Ok(Machine::begin(alloc, program, instance)?)
+    }
+
     /// The start of the instance, whatever its weight.
     pub fn begin(alloc: Global, program: &Program, instance: &Instance) -> Result<Machine, NoMemory>
         requires typed { IsProgramWellTyped program.now }
-        requires fits { FitsAsGiven program.now instance.now }
+        requires fits { FitsAsGiven program.now.enums program.now.roles instance.now }
         ensures { IfOk result (λ m. state_of m ≡ start program.now (instance_of instance.now)) }
     {
         let codes = start_codes(alloc, &program.roles, &instance.sizes)?;
-        let store = start_store(alloc, &program.roles, &instance.sizes, &instance.inputs)?;
+        let store = start_store(alloc, &program.roles, instance)?;
         Ok(Machine {
             alloc,
             program: copy_program(alloc, program)?,
@@ -79,6 +99,13 @@ impl Machine {
         ensures { result.now ≡ self.now.store }
     {
         &self.store
+    }
+
+    /// The sizes of the sets.
+    pub fn sizes(&self) -> &Sizes
+        ensures { result.now ≡ self.now.sizes }
+    {
+        &self.sizes
     }
 
     /// What a process has left to do, if it is in the instance.
@@ -102,6 +129,14 @@ impl Machine {
         ensures { IsTrue result ↔ IsDeadlocked (state_of self.now) }
     {
         self.is_terminal() && !self.is_halted()
+    }
+
+    /// The queues that aren't empty, ordered by sender, receiver and channel, each in order of declaration and number.
+    pub fn queues(&self) -> Result<Vec<Queue>, NoMemory>
+        ensures { IfOk result (λ qs. AreQueues self.now.program (state_of self.now).mail qs.items) }
+    {
+        let numbers = self.mail.numbers(&self.program)?;
+        told(self.alloc, &numbers)
     }
 
     // Whether no event has a next state.
@@ -275,8 +310,8 @@ impl Machine {
         }
     }
 
-    // Why the event isn't taken, if it isn't.
-    fn refusal(&self, event: &Event) -> Option<StepFault>
+    // The first test of the event that fails, if one does.
+    fn first_failure(&self, event: &Event) -> Option<StepFault>
         ensures { result ≡ refusal (state_of self.now) event.now }
     {
         let Some(code) = self.codes.get(&event.process) else {
@@ -286,6 +321,16 @@ impl Machine {
             return Some(StepFault::Finished);
         };
         self.at_head(head, event)
+    }
+
+    // Why the event has no next state, if it has none.
+    fn refusal(&self, event: &Event) -> Option<StepFault>
+        ensures first { result ≡ refusal (state_of self.now) event.now }
+        ensures none { IfSome result (λ _. step (state_of self.now) event.now ≡ None) }
+        ensures some { IsTrue (is_none result) ↔ IsSome (step (state_of self.now) event.now) }
+    {
+        let _invariant = &self.alloc;
+        self.first_failure(event)
     }
 
     // Does what an act does.
@@ -313,7 +358,6 @@ impl Machine {
     pub fn enabled(&self, event: &Event) -> bool
         ensures { IsTrue result ↔ IsSome (step (state_of self.now) event.now) }
     {
-        let _invariant = &self.alloc;
         self.refusal(event).is_none()
     }
 
@@ -321,7 +365,7 @@ impl Machine {
     pub fn step(&mut self, event: &Event) -> Result<(), StepFault>
         ensures ok { OnOk result (step (state_of self.old) event.now ≡ Some (state_of self.new)) }
         ensures err { OnErr result (self.new ≡ self.old) }
-        ensures cause { IfErr result (λ f. (refusal (state_of self.old) event.now ≡ Some f) ⊎ ((f ≡ StepFault.NoMemory) × (refusal (state_of self.old) event.now ≡ None))) }
+        ensures cause { IfErr result (λ f. ((refusal (state_of self.old) event.now ≡ Some f) × (step (state_of self.old) event.now ≡ None)) ⊎ ((f ≡ StepFault.NoMemory) × (refusal (state_of self.old) event.now ≡ None))) }
     {
         if let Some(fault) = self.refusal(event) {
             return Err(fault);

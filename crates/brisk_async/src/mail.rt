@@ -1,10 +1,13 @@
 //! Mail: for each sender, receiver and channel the payloads that wait, the oldest first.
-ghost use Rattle.std.specs.Prelude.{◌≡◌, ◌∷◌, [], ◌++◌, OnOk, OnErr, IsSome, IsTrue, ◌↔◌, option_map};
+ghost use Rattle.std.specs.Prelude.{◌≡◌, ◌∷◌, [], ◌++◌, OnOk, OnErr, IsSome, IsTrue, ◌↔◌, option_map, IfOk, length};
 ghost use Rattle.std.specs.Option.{option_copied};
 ghost use Rattle.brisk_values.specs.Functions.{changed};
 ghost use Rattle.brisk_async.specs.Machine.{same_queue, payload_at, without};
 ghost use Rattle.brisk_async.specs.Keys.{mail_in, queue_of};
+ghost use Rattle.brisk_async.specs.Ranks.{AreNumbers};
 
+use crate::queue::{Rank, rank_in};
+use brisk_syntax::Program;
 use brisk_values::{Name, NoMemory, Pid, Value};
 use std::alloc::Global;
 use std::collections::{BTreeMap, VecDeque};
@@ -57,6 +60,12 @@ impl Model for Waiting {
 }
 
 impl Waiting {
+    fn count(&self) -> u64
+        ensures { result ≡ length self.now }
+    {
+        self.payloads.len() as u64
+    }
+
     fn payload(&self, place: u32) -> Option<&Payload>
         ensures { option_copied result ≡ payload_at self.now place }
     {
@@ -147,6 +156,20 @@ impl Mail {
         payloads.push_back(payload)?;
         self.queues.insert(*key, Waiting { payloads })?;
         Ok(())
+    }
+
+    /// The number of payloads of each queue that isn't empty, by its rank in the program.
+    pub fn numbers(&self, program: &Program) -> Result<BTreeMap<Rank, u64>, NoMemory>
+        ensures { IfOk result (AreNumbers program.now (mail_in self.now)) }
+    {
+        let mut numbers = BTreeMap::new(self.alloc);
+        for (key, waiting) in &self.queues {
+            let number = waiting.count();
+            if number > 0 {
+                numbers.insert(rank_in(program, key), number)?;
+            }
+        }
+        Ok(numbers)
     }
 
     /// Takes the payload at the place of the queue.

@@ -1,39 +1,14 @@
-//! What a machine starts from: the code and the values of each process of an instance.
+//! The codes with which a machine starts.
 ghost use Rattle.std.specs.Prelude.{◌≡◌, IfOk, OnOk};
 ghost use Rattle.std.specs.FinMap as map;
-ghost use Rattle.brisk_syntax.specs.Declarations.{constant_value as value_of_constant};
-ghost use Rattle.brisk_syntax.specs.Texts.{text_of};
 ghost use Rattle.brisk_syntax.specs.Value.{size_in};
-ghost use Rattle.brisk_async.specs.Begun.{declared_value as value_of_declared, members_of as number_of_members, with_code, with_codes, with_values, with_members, with_roles};
-ghost use Rattle.brisk_async.specs.Given.{with_inputs};
+ghost use Rattle.brisk_async.specs.Begun.{with_code, with_codes};
 
 use crate::codes::Codes;
-use brisk_syntax::{Const, Decl, Decls, Role, Roles, code_from, copy_code, size_of_set};
-use brisk_values::{Inputs, NoMemory, Pid, Sizes, Store, Value, wrap};
+use brisk_instance::members_of;
+use brisk_syntax::{Role, Roles, code_from, copy_code};
+use brisk_values::{NoMemory, Pid, Sizes};
 use std::alloc::Global;
-
-// The value of a constant.
-fn constant_value(constant: &Const) -> Value
-    ensures { result ≡ value_of_constant constant.now }
-{
-    match constant {
-        Const::Num(true, n) => Value::Int(wrap(-i128::from(*n))),
-        Const::Num(false, n) => Value::Int(wrap(i128::from(*n))),
-        Const::Bool(b) => Value::Bool(*b),
-        Const::Tag(e, t) => Value::Tag(*e, *t),
-    }
-}
-
-// The number of a role's processes.
-fn members_of(role: &Role, sizes: &Sizes) -> u32
-    ensures { result ≡ number_of_members (size_in sizes.now) (text_of role.now) }
-{
-    if role.many {
-        size_of_set(sizes, &role.name)
-    } else {
-        1
-    }
-}
 
 // Adds the role's code for each of its processes, which share it.
 fn add_codes(alloc: Global, codes: &mut Codes, role: &Role, members: u32) -> Result<(), NoMemory>
@@ -59,84 +34,4 @@ pub fn start_codes(alloc: Global, roles: &Roles, sizes: &Sizes) -> Result<Codes,
         add_codes(alloc, &mut codes, role, members_of(role, sizes))?;
     }
     Ok(codes)
-}
-
-// The given values of the inputs.
-fn given_values(alloc: Global, inputs: &Inputs) -> Result<Store, NoMemory>
-    ensures { IfOk result (λ s. s ≡ with_inputs inputs.now map.empty) }
-{
-    let mut store = Store::new(alloc);
-    for input in &inputs.items {
-        store.set(input.process, input.variable, input.value)?;
-    }
-    Ok(store)
-}
-
-// The value with which a variable of a process starts.
-fn declared_value(given: &Store, process: &Pid, decl: &Decl) -> Value
-    ensures { result ≡ value_of_declared given.now process.now decl.now }
-{
-    match decl {
-        Decl::Var(_, _, constant) => constant_value(constant),
-        Decl::Input(x, _) => match given.get(*process, *x) {
-            Some(v) => v,
-            None => Value::Bool(false),
-        },
-    }
-}
-
-// Stores the values with which the variables of a process start.
-fn add_values(
-    store: &mut Store,
-    given: &Store,
-    process: &Pid,
-    decls: &Decls,
-) -> Result<(), NoMemory>
-    ensures { OnOk result (store.new ≡ with_values given.now process.now decls.now store.old) }
-{
-    for decl in &decls.items {
-        let value = declared_value(given, process, decl);
-        match decl {
-            Decl::Var(x, _, _) | Decl::Input(x, _) => store.set(*process, *x, value)?,
-        }
-    }
-    Ok(())
-}
-
-// Stores those of each process of a role.
-fn add_members(store: &mut Store, given: &Store, role: &Role, members: u32) -> Result<(), NoMemory>
-    ensures { OnOk result (store.new ≡ with_members given.now role.now.name role.now.decls members store.old) }
-{
-    for member in 0..members {
-        let process = Pid {
-            role: role.name,
-            member,
-        };
-        add_values(store, given, &process, &role.decls)?;
-    }
-    Ok(())
-}
-
-// The store with the declared values, and with the given ones for the inputs.
-fn with_given(alloc: Global, roles: &Roles, sizes: &Sizes, given: &Store) -> Result<Store, NoMemory>
-    ensures { IfOk result (λ s. s ≡ with_roles given.now (size_in sizes.now) roles.now map.empty) }
-{
-    let mut store = Store::new(alloc);
-    for role in &roles.items {
-        add_members(&mut store, given, role, members_of(role, sizes))?;
-    }
-    Ok(store)
-}
-
-/// The store with the declared and the given values.
-pub fn start_store(
-    alloc: Global,
-    roles: &Roles,
-    sizes: &Sizes,
-    inputs: &Inputs,
-) -> Result<Store, NoMemory>
-    ensures { IfOk result (λ s. s ≡ with_roles (with_inputs inputs.now map.empty) (size_in sizes.now) roles.now map.empty) }
-{
-    let given = given_values(alloc, inputs)?;
-    with_given(alloc, roles, sizes, &given)
 }

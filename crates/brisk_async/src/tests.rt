@@ -4,7 +4,7 @@ ghost use Rattle.brisk_syntax.specs.Statements.{statement_of};
 ghost use Rattle.brisk_syntax.specs.Texts.{text_of};
 ghost use Rattle.brisk_async.specs.Sample.{sample, sender as sender_text, wait as wait_statement, waiter as waiter_text};
 
-use crate::{Event, Machine, StepFault};
+use crate::{Event, Machine, Queue, StepFault};
 use brisk_syntax::{
     Block, Channel, Channels, Const, Decl, Decls, Enums, Expr, Exprs, Kinds, Names, Program, Role,
     Roles, Stmt, Who,
@@ -22,9 +22,9 @@ fn named(bytes: &[u8]) -> Name
     Name::new(bytes).unwrap()
 }
 
-// `one A { send T(7) to B; }`
-fn sender(alloc: Global) -> Result<Role, Fail>
-    ensures { IfOk result (λ r. text_of r ≡ sender_text) }
+// `one A { send T(7) to B; }`, and the same under another name.
+fn sender(alloc: Global, name: Name) -> Result<Role, Fail>
+    ensures { IfOk result (λ r. text_of r ≡ sender_text name) }
 {
     let exprs = Exprs {
         items: vec![in alloc; Expr::Num(7)]?,
@@ -33,7 +33,7 @@ fn sender(alloc: Global) -> Result<Role, Fail>
         items: vec![in alloc; Stmt::Send(named(b"T"), exprs, Who::Name(named(b"B")))]?,
     };
     Ok(Role {
-        name: named(b"A"),
+        name,
         many: false,
         nonempty: false,
         decls: Decls {
@@ -84,8 +84,9 @@ fn program(alloc: Global) -> Result<Program, Fail>
         kinds,
         loose: false,
     };
-    let first = sender(alloc)?;
-    let second = waiter(alloc)?;
+    let first = sender(alloc, named(b"C"))?;
+    let second = sender(alloc, named(b"A"))?;
+    let third = waiter(alloc)?;
     Ok(Program {
         enums: Enums {
             items: Vec::new(alloc),
@@ -94,7 +95,7 @@ fn program(alloc: Global) -> Result<Program, Fail>
             items: vec![in alloc; channel]?,
         },
         roles: Roles {
-            items: vec![in alloc; first, second]?,
+            items: vec![in alloc; first, second, third]?,
         },
     })
 }
@@ -130,7 +131,8 @@ fn a_machine_runs_to_its_deadlock(rt: HostRuntime) -> Result<(), Fail> {
     let mut machine = begun(rt.alloc())?;
     let a = event(named(b"A"));
     let b = event(named(b"B"));
-    assert!(rt; machine.code(process(named(b"C"))).is_none());
+    assert!(rt; machine.code(process(named(b"D"))).is_none());
+    machine.step(&event(named(b"C")))?;
     assert!(rt; machine.enabled(&a));
     assert_eq!(rt; machine.step(&b), Err(StepFault::Blocked));
     assert!(rt; !machine.is_deadlocked());
@@ -141,5 +143,30 @@ fn a_machine_runs_to_its_deadlock(rt: HostRuntime) -> Result<(), Fail> {
     assert!(rt; !machine.is_halted());
     let x = machine.store().get(process(named(b"B")), named(b"x"));
     assert_eq!(rt; x, Some(Value::Int(7)));
+    Ok(())
+}
+
+// One message waits in the queue to B.
+fn waits(from: Name) -> Queue {
+    Queue {
+        from: process(from),
+        to: process(named(b"B")),
+        channel: named(b"T"),
+        length: 1,
+    }
+}
+
+#[test]
+fn queues_are_told_as_declared(rt: HostRuntime) -> Result<(), Fail> {
+    let mut machine = begun(rt.alloc())?;
+    machine.step(&event(named(b"A")))?;
+    machine.step(&event(named(b"C")))?;
+    let both = machine.queues()?;
+    let told = [waits(named(b"C")), waits(named(b"A"))];
+    assert_eq!(rt; both.as_slice(), told.as_slice());
+    machine.step(&event(named(b"B")))?;
+    let left = machine.queues()?;
+    let told = [waits(named(b"C"))];
+    assert_eq!(rt; left.as_slice(), told.as_slice());
     Ok(())
 }

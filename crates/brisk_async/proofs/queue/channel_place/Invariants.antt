@@ -1,0 +1,7 @@
+use Rattle.std.proofs.Common.{◌≡◌, ◌<◌, ◌≤◌, ℕ, false, get_or, length}
+use Rattle.brisk_values.specs.Names.{same_name}
+use Rattle.brisk_syntax.specs.declared.program.Channel.{Channel}
+use Rattle.brisk_async.proofs.queue.channel_place.Given as goal
+
+abbrev pub invariant-loop-k : goal.invariant-loop-k
+invariant-loop-k l = (j : ℕ) (d : Channel) → j < l.k → same_name l.name (get_or l.channel-items j d).name ≡ false

@@ -1,0 +1,4 @@
+pub mod Begun
+pub mod Causes
+pub mod Given
+pub mod Walks

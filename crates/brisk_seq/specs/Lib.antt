@@ -1,6 +1,10 @@
+pub mod Answers
+pub mod Cells
 pub mod Depths
 pub mod Falls
 pub mod Items
+pub mod Running
+pub mod Sample
 pub mod Seen
 pub mod Sequential
 pub mod Stored

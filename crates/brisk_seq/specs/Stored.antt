@@ -1,11 +1,9 @@
 -- How sequential programs are kept by proofs: as trees of numbers, of which each stands for one program.
-use Rattle.std.specs.Prelude.{◌≡◌, List, refl}
+use Rattle.std.specs.Prelude.{◌≡◌, refl}
 use Rattle.std.proofs.Common.{ap}
-use Rattle.std.specs.Coded.{Coded, coded_ℕ, coded_list}
+use Rattle.std.specs.Coded.{Coded, coded_ℕ}
 use base.Stored.{Gv, gnil, gnum, gcons}
-use Rattle.brisk_values.specs.Names.{Name}
 use Rattle.brisk_values.specs.Places.{coded_name}
-use Rattle.brisk_syntax.specs.Syntax.{Expression}
 use Rattle.brisk_syntax.specs.Stored.{coded_expression, coded_expressions, coded_names, first, second}
 use Rattle.brisk_seq.specs.Items.{Item, Pass, Fill, Take, If, While, For, ForAny, Pick, Repeat, Items, nothing, ◌⨟◌}
 

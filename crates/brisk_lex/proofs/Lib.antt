@@ -5,6 +5,7 @@ pub mod Chars
 pub mod Count
 pub mod Cutting
 pub mod Encoding
+pub mod NamedText
 pub mod Printed
 pub mod Spellable
 pub mod Spellings

@@ -33,7 +33,7 @@ fn is_space(c: char) -> bool
     c == ' ' || c == '\t' || c == '\n' || c == '\r'
 }
 
-fn starts_name(c: char) -> bool
+pub fn starts_name(c: char) -> bool
     ensures { result ≡ spec.starts_name c }
 {
     is_xid_start(c) || c == '_'

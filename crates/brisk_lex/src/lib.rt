@@ -5,6 +5,7 @@ mod cut;
 mod fault;
 mod laws;
 mod marks;
+mod name;
 mod scan;
 #[cfg(test)]
 mod tests;
@@ -14,5 +15,6 @@ mod words;
 
 pub use fault::LexFault;
 pub use laws::longest;
+pub use name::name_in;
 pub use text::tokens;
 pub use token::{Mark, Placed, Token, Word};

@@ -14,6 +14,6 @@ mod tests;
 mod worked;
 
 pub use laws::{program_layouts, sequential_layouts};
-pub use pieces::print_value;
+pub use pieces::{print_value, put, put_number, put_value};
 pub use programs::{print_head, print_program};
 pub use sequential::print_seq;

@@ -48,6 +48,7 @@ pub fn put(out: &mut Vec<u8>, bytes: &[u8]) -> Result<(), NoMemory>
     Ok(())
 }
 
+/// Writes the decimal number.
 pub fn put_number(out: &mut Vec<u8>, number: u64) -> Result<(), NoMemory>
     ensures { OnOk result (out.new.items ≡ out.old.items ++ decimal number) }
 {
@@ -98,15 +99,22 @@ pub fn put_all<T: Piece>(out: &mut Vec<u8>, items: &[T]) -> Result<(), NoMemory>
     Ok(())
 }
 
+/// Writes a value as `print_value` does.
+pub fn put_value(out: &mut Vec<u8>, value: &Value) -> Result<(), NoMemory>
+    ensures { OnOk result (out.new.items ≡ out.old.items ++ layout.value_text value.now) }
+{
+    match value {
+        Value::Int(n) => put(out, Buffer::new().format(*n).as_bytes()),
+        Value::Bool(b) => put_truth(out, *b),
+        Value::Tag(enumeration, tag) => put_tag(out, enumeration, tag),
+    }
+}
+
 /// The decimal number, `true`, `false`, or the enumeration, a dot and the tag.
 pub fn print_value(alloc: Global, value: &Value) -> Result<Vec<u8>, NoMemory>
     ensures { IfOk result (λ v. v.items ≡ layout.value_text value.now) }
 {
     let mut out = Vec::new(alloc);
-    match value {
-        Value::Int(n) => put(&mut out, Buffer::new().format(*n).as_bytes())?,
-        Value::Bool(b) => put_truth(&mut out, *b)?,
-        Value::Tag(enumeration, tag) => put_tag(&mut out, enumeration, tag)?,
-    }
+    put_value(&mut out, value)?;
     Ok(out)
 }

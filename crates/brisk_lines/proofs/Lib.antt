@@ -1,0 +1,5 @@
+pub mod Cuts
+pub mod Decimals
+pub mod Differ
+pub mod Plain
+pub mod Sides

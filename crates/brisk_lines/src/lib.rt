@@ -1,0 +1,16 @@
+//! The lines of schedule and choices texts.
+#![tactic(auto)]
+
+mod laws;
+mod line;
+mod numbers;
+mod parts;
+mod read;
+#[cfg(test)]
+mod tests;
+mod write;
+
+pub use laws::lines;
+pub use line::{Line, Process};
+pub use read::read_line;
+pub use write::{put_line, put_process};

@@ -1,2 +1,9 @@
+pub mod Focus
+pub mod Kept
+pub mod Lends
+pub mod Pending
+pub mod Places
 pub mod Same
+pub mod Sample
+pub mod Stored
 pub mod Symbolic

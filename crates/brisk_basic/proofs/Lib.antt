@@ -1,0 +1,4 @@
+pub mod Known
+pub mod Lent
+pub mod Pairs
+pub mod Passed

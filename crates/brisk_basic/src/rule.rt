@@ -1,4 +1,5 @@
-use brisk_values::Name;
+//! The basic rules, and the tests that they make.
+use brisk_values::{Name, NoMemory};
 use thiserror::Error;
 
 /// A basic rule. Of `Fill`, `Pass` and `Take` the first two names are those of the sender and the receiver, and the third
@@ -30,4 +31,15 @@ pub enum RuleFault {
     NotKnown,
     #[error("out of memory")]
     NoMemory,
+}
+
+impl From<NoMemory> for RuleFault {
+    ghost use Rattle.std.specs.Prelude.{◌≡◌};
+    ghost use Rattle.brisk_basic.specs.declared.rule.RuleFault.TheVariants.{NoMemory as out_of_memory};
+
+    ghost from_gives = { λ _ f. f ≡ out_of_memory };
+
+    fn from(_: NoMemory) -> RuleFault {
+        RuleFault::NoMemory
+    }
 }

@@ -1,1 +1,3 @@
+pub mod Left
 pub mod Quiet
+pub mod Sample

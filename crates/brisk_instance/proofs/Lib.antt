@@ -1,4 +1,11 @@
+pub mod Alls
 pub mod Apart
+pub mod Differ
+pub mod FilledSlots
+pub mod FitsOrdered
+pub mod Found
 pub mod Lists
+pub mod OrderedFits
+pub mod Sized
 pub mod Started
 pub mod Walks

@@ -21,7 +21,7 @@ use brisk_values::{Input, Inputs, Instance, Kind, Name, Pid, Sizes, Store, Value
 use std::alloc::Global;
 
 /// The greatest weight of an instance that is started.
-const MOST_WEIGHT: u64 = 2_000_000;
+pub const MOST_WEIGHT: u64 = 2_000_000;
 
 // The sizes behind that of a set, where they begin with it.
 fn behind_set<'a>(sizes: &'a [(Name, u32)], set: &Name) -> Option<&'a [(Name, u32)]>
@@ -136,7 +136,8 @@ fn is_tag(enums: &Enums, of: &Name, tag: &Name) -> bool
     enums.items.iter().any(|e| of == &e.name && has_tag(e, tag))
 }
 
-fn is_of_kind(enums: &Enums, kind: &Kind, value: Value) -> bool
+/// Whether the value is of the kind; a tag is one of its enumeration's.
+pub fn is_of_kind(enums: &Enums, kind: &Kind, value: Value) -> bool
     ensures { IsTrue result ↔ IsOfKind enums.now kind.now value }
 {
     match (kind, value) {
@@ -186,8 +187,8 @@ fn members_fit(enums: &Enums, given: &Store, role: &Role, members: u32) -> bool
     true
 }
 
-// The least number of a role's processes.
-fn least_members(role: &Role) -> u32
+/// The least number of a role's processes.
+pub fn least_members(role: &Role) -> u32
     ensures { result ≡ least (text_of role.now) }
 {
     if role.nonempty { 1 } else { 0 }

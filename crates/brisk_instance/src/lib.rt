@@ -3,12 +3,14 @@
 
 mod fault;
 mod fit;
+mod laws;
 mod start;
 #[cfg(test)]
 mod tests;
 mod tokens;
 
 pub use fault::StartFault;
-pub use fit::judge;
+pub use fit::{MOST_WEIGHT, is_of_kind, judge, least_members};
+pub use laws::{fitting_is_ordered, ordered_fits};
 pub use start::{members_of, start_store};
 pub use tokens::weight;

@@ -1,5 +1,5 @@
 -- Two legal lines with one text are the same.
-use Rattle.std.proofs.Common.{◌≡◌, ◌<◌, ◌≤◌, ◌^◌, ℕ, ℤ, pos, negsuc, suc, Bool, true, false, ◌&&◌, List, [], ◌∷◌, ◌++◌, Option, Some, None, IfSome, FitsSigned, refl, sym, ap, subst, ◌∙◌, append_assoc, arith}
+use Rattle.std.proofs.Common.{◌≡◌, ◌<◌, ◌≤◌, ◌^◌, ℕ, ℤ, pos, negsuc, suc, Bool, true, false, [], ◌∷◌, ◌++◌, Option, Some, None, IfSome, FitsSigned, refl, sym, ap, subst, ◌∙◌, append_assoc, arith}
 use Rattle.std.specs.Prelude.{codes}
 use Rattle.std.specs.Int.{w64}
 use Rattle.std.specs.Fmt.{decimal, signed_decimal}
@@ -13,11 +13,10 @@ use Rattle.brisk_print.specs.Layout.{Text, value_text}
 use Rattle.brisk_values.specs.Names.{Name}
 use Rattle.brisk_values.specs.declared.value.Value.{Value}
 use Rattle.brisk_values.specs.declared.value.Value.TheVariants as value
-use Rattle.brisk_lines.specs.declared.line.Line.{Line}
 use Rattle.brisk_lines.specs.declared.line.Line.TheVariants as line
 use Rattle.brisk_lines.specs.declared.line.Process.{Process}
-use Rattle.brisk_lines.specs.Lines.{member_text, process_text, sender_text, place_text, line_text, IsShort, IsLegalProcess, IsLegalValue, IsLegal}
-use Rattle.brisk_lines.specs.Pieces.{differs, Lacks, Begins, IsCut, end_text, given_text, size_text}
+use Rattle.brisk_lines.specs.Lines.{member_text, process_text, sender_text, place_text, IsShort, IsLegalProcess, IsLegalValue}
+use Rattle.brisk_lines.specs.Pieces.{differs, Lacks, Begins, end_text, given_text, size_text}
 use Rattle.brisk_lines.specs.Laws.{LinesDiffer}
 use Rattle.brisk_lines.proofs.Cuts.{cut_once, clash}
 use Rattle.brisk_lines.proofs.Decimals.{decimal_same, short}

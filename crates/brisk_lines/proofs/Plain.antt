@@ -1,19 +1,19 @@
 -- No name, number or process holds a space or a dot, and no name a bracket.
-use Rattle.std.proofs.Common.{◌≡◌, ◌<◌, ◌≤◌, ◌^◌, ◌%◌, ◌/◌, ◌+◌, ◌-◌, ◌⊎◌, inl, inr, ℕ, Bool, true, false, not, ◌==◌, ◌||◌, ◌&&◌, nat_lt, List, [], ◌∷◌, ◌++◌, Option, Some, None, IfSome, refl, sym, ap, subst, ◌∙◌, arith}
+use Rattle.std.proofs.Common.{◌≡◌, ◌<◌, ◌≤◌, ◌^◌, ◌%◌, ◌/◌, ◌+◌, inl, inr, ℕ, true, false, not, ◌==◌, ◌||◌, nat_lt, [], ◌∷◌, ◌++◌, Option, Some, None, IfSome, refl, sym, ap, subst, ◌∙◌, arith}
 use Rattle.std.specs.Prelude.{codes}
 use Rattle.std.specs.List.{list_all}
-use Rattle.std.specs.Char.{is_ascii_alphanumeric, is_ascii_alphabetic}
+use Rattle.std.specs.Char.{is_ascii_alphanumeric}
 use Rattle.std.specs.Str.{chars, encode_utf8_all}
 use Rattle.std.specs.Fmt.{decimal}
 use Rattle.std.proofs.lemmas.Bool.{ne_eqb, le-ltb, lt-ltb}
-use Rattle.std.proofs.lemmas.Bool.Decides.{leb_tells, eqb_tells, nat_tests}
+use Rattle.std.proofs.lemmas.Bool.Decides.{leb_tells, nat_tests}
 use Rattle.std.proofs.lemmas.Fmt.{decimal_by_steps}
 use Rattle.std.proofs.lemmas.List.Folds.{list_all-append}
 use Rattle.unicode_ident.specs.Ident.{is_xid_continue}
 use lib.Utf8.{encode, next}
 use Rattle.brisk_lex.specs.Tokens.{starts_name}
 use Rattle.brisk_lex.specs.Spelled.{is_identifier, IsName}
-use Rattle.brisk_lex.proofs.Ascii.{both, is_ascii_start, starts_ascii}
+use Rattle.brisk_lex.proofs.Ascii.{both, starts_ascii}
 use Rattle.brisk_lex.proofs.Printed.{is_plain, plain_ends}
 use Rattle.brisk_print.specs.Layout.{Text}
 use Rattle.brisk_lines.specs.declared.line.Process.{Process}
@@ -23,7 +23,7 @@ use Rattle.brisk_lines.specs.Pieces.{differs, Lacks}
 other : (c x : ℕ) → (x ≡ c → ⊥) → differs c x ≡ true
 other c x h = ap not (ne_eqb x c h)
 
-both_lack : (c : ℕ) (a b : Text) → Lacks c a → Lacks c b → Lacks c (a ++ b)
+pub both_lack : (c : ℕ) (a b : Text) → Lacks c a → Lacks c b → Lacks c (a ++ b)
 both_lack c a b h k = rw (list_all-append, h, k) refl
 
 -- ---- names

@@ -1,5 +1,5 @@
 -- What stands on either side where the bytes of a text are cut.
-use Rattle.std.proofs.Common.{◌≡◌, ◌<◌, ◌≤◌, ◌^◌, ◌⊎◌, inl, inr, Bool, true, false, ℕ, ℤ, FitsSigned, List, [], ◌∷◌, ◌++◌, drop, Option, Some, None, IfSome, refl, sym, ap, subst, ◌∙◌, append_assoc, eq-eqb, ◌==◌, arith}
+use Rattle.std.proofs.Common.{◌≡◌, ◌<◌, ◌^◌, ◌⊎◌, inl, inr, true, false, ℕ, ℤ, FitsSigned, [], ◌∷◌, ◌++◌, Option, Some, None, IfSome, refl, sym, subst, ◌∙◌, append_assoc, eq-eqb, ◌==◌, arith}
 use Rattle.std.specs.Prelude.{codes}
 use Rattle.std.specs.Int.{w64}
 use Rattle.std.specs.Fmt.{decimal, signed_decimal}
@@ -12,7 +12,7 @@ use Rattle.brisk_lines.specs.declared.line.Line.{Line}
 use Rattle.brisk_lines.specs.declared.line.Line.TheVariants as line
 use Rattle.brisk_lines.specs.declared.line.Process.{Process}
 use Rattle.brisk_lines.specs.Lines.{member_text, process_text, sender_text, place_text, line_text, IsShort, IsLegalProcess, IsLegalValue, IsLegal}
-use Rattle.brisk_lines.specs.Pieces.{Lacks, Begins, IsCut, end_text, IsLegalEnd, given_text, IsLegalGiven, tag_text, IsLegalTag, size_text, IsSize}
+use Rattle.brisk_lines.specs.Pieces.{Begins, IsCut, end_text, IsLegalEnd, given_text, IsLegalGiven, tag_text, IsLegalTag, size_text, IsSize}
 use Rattle.brisk_lines.proofs.Cuts.{parts}
 use Rattle.brisk_lines.proofs.Plain.{name_lacks, process_lacks}
 

@@ -1,5 +1,5 @@
 -- The lines of schedule and choices texts, as bytes without the byte 10 at their end, and which lines are legal.
-use Rattle.std.specs.Prelude.{◌≡◌, ℕ, ◌^◌, ◌<◌, ◌≤◌, List, ◌++◌, Option, None, Some, MatchOption, IfSome, FitsSigned, codes}
+use Rattle.std.specs.Prelude.{◌≡◌, ℕ, ◌^◌, ◌<◌, ◌≤◌, ◌++◌, Option, None, Some, MatchOption, IfSome, FitsSigned, codes}
 use Rattle.std.specs.Fmt.{decimal}
 use Rattle.std.specs.Int.{w64}
 use Rattle.brisk_lex.specs.Spelled.{IsName}
@@ -68,3 +68,7 @@ IsLegal line.End = Unit {0}
 -- The bytes are read as something legal whose text they are. Where nothing is read they are the text of nothing legal.
 abbrev pub Reads : {A : Type 0} → (A → Text) → (A → Type 0) → Text → Option A → Type 0
 Reads {A} text legal b r = MatchOption r ((x : A) → legal x → b ≡ text x → ⊥) (λ x. (b ≡ text x) × legal x)
+
+-- the text begins with the line, which byte 10 ends, and this stands behind
+abbrev pub BeginsWith : Text → Line → Text → Type 0
+BeginsWith text l more = IsLegal l × (text ≡ line_text l ++ codes "\n" ++ more)

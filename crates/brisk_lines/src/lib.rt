@@ -10,7 +10,7 @@ mod read;
 mod tests;
 mod write;
 
-pub use laws::lines;
+pub use laws::{lines, lines_are_cut};
 pub use line::{Line, Process};
-pub use read::read_line;
+pub use read::{first_line, read_line};
 pub use write::{put_line, put_process};

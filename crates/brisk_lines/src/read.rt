@@ -1,6 +1,8 @@
 //! Lines, read.
 ghost use Rattle.std.specs.Prelude.{◌≡◌, ◌++◌, codes, MatchOption, IfSome};
-ghost use Rattle.brisk_lines.specs.Lines.{Reads, line_text, IsLegal, place_text, IsShort};
+ghost use Rattle.std.specs.Prelude.{List, ℕ};
+ghost use Rattle.brisk_lines.specs.declared.line.Line.{Line as ALine};
+ghost use Rattle.brisk_lines.specs.Lines.{BeginsWith, Reads, line_text, IsLegal, place_text, IsShort};
 ghost use Rattle.brisk_lines.specs.Pieces.{end_text, IsLegalEnd, given_text, IsLegalGiven, size_text, IsSize, IsNoPlain};
 
 use crate::line::{Line, Process};
@@ -126,4 +128,14 @@ pub fn read_line(bytes: &[u8]) -> Option<Line>
     } else {
         plain_line(bytes)
     }
+}
+
+/// The line at the front of a text, which byte 10 ends, and what stands behind it.
+pub fn first_line(text: &[u8]) -> Option<(Line, &[u8])>
+    ensures { MatchOption result ((l : ALine) (more : List ℕ) → BeginsWith text.now l more → ⊥) (λ r. BeginsWith text.now r.0 r.1.now) }
+{
+    let (front, end) = cut(text, b'\n');
+    let rest = behind(end, b"\n")?;
+    let line = read_line(front)?;
+    Some((line, rest))
 }

@@ -1,2 +1,10 @@
-mod Plays
-mod Members
+pub mod Ends
+pub mod Faultless
+pub mod Goes
+pub mod Instances
+pub mod Members
+pub mod Plays
+pub mod Sections
+pub mod Standing
+pub mod Takes
+pub mod Told

@@ -1,3 +1,6 @@
+pub mod Laws
 pub mod Playing
 pub mod Printing
+pub mod Reading
+pub mod Taking
 pub mod Texts

@@ -1,5 +1,5 @@
 -- How a schedule ends on a machine.
-use Rattle.std.specs.Prelude.{◌≡◌, ℕ, ◌+◌, List, ◌∷◌, ◌++◌, length, Option, Some, None}
+use Rattle.std.specs.Prelude.{◌≡◌, ◌+◌, List, ◌∷◌, ◌++◌, length, Some, None}
 use Rattle.brisk_async.specs.declared.event.Event.{Event}
 use Rattle.brisk_async.specs.Machine.{State, step, run, IsHalted, IsDeadlocked}
 use Rattle.brisk_async.specs.Refusals.{refusal}

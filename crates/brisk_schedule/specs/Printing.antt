@@ -1,11 +1,10 @@
 -- The texts of how a schedule ended and of a store.
-use Rattle.std.specs.Prelude.{◌≡◌, ℕ, Bool, true, false, List, [], ◌∷◌, ◌++◌, map, flat_map, Option, Some, None, codes, if◌then◌else◌}
+use Rattle.std.specs.Prelude.{◌≡◌, ℕ, Bool, true, false, List, [], ◌++◌, map, flat_map, Option, codes}
 use Rattle.std.specs.Fmt.{decimal}
 use Rattle.std.specs.List.{range_with_len}
 use Rattle.brisk_values.specs.declared.value.Pid.{Pid}
 use Rattle.brisk_values.specs.declared.value.Value.{Value}
 use Rattle.brisk_values.specs.Names.{Name, member}
-use Rattle.brisk_syntax.specs.declared.program.Decl.{Decl}
 use Rattle.brisk_syntax.specs.declared.program.Program.{Program}
 use Rattle.brisk_syntax.specs.Declarations.{variable_of}
 use Rattle.brisk_syntax.specs.Roles.{RoleText}

@@ -1,5 +1,5 @@
 -- The texts of schedules and of choices: the lines of a tree, and which trees have a text.
-use Rattle.std.specs.Prelude.{◌≡◌, ℕ, ◌≤◌, Bool, true, false, ◌||◌, List, [], ◌∷◌, ◌++◌, map, flat_map, Option, Some, None, option_map, codes, if◌then◌else◌, nat_eq}
+use Rattle.std.specs.Prelude.{◌≡◌, ℕ, ◌≤◌, Bool, true, ◌||◌, List, [], ◌∷◌, ◌++◌, map, flat_map, Option, Some, None, option_map, codes, if◌then◌else◌, nat_eq}
 use Rattle.std.specs.List.{AllByRecursion}
 use Rattle.brisk_values.specs.declared.instance.Input.{Input as GivenInput}
 use Rattle.brisk_values.specs.declared.instance.Instance.{Instance as Given}

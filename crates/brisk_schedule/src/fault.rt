@@ -1,4 +1,5 @@
 use brisk_values::NoMemory;
+use std::alloc::AllocFailed;
 use thiserror::Error;
 
 /// The first line at which a text fails, counted from 1.
@@ -24,6 +25,17 @@ impl From<NoMemory> for ScheduleFault {
     ghost from_gives = { λ _ f. f ≡ out_of_memory };
 
     fn from(_: NoMemory) -> ScheduleFault {
+        ScheduleFault::NoMemory
+    }
+}
+
+impl<T: Drop> From<AllocFailed<T>> for ScheduleFault {
+    ghost use Rattle.std.specs.Prelude.{◌≡◌};
+    ghost use Rattle.brisk_schedule.specs.declared.fault.ScheduleFault.TheVariants.{NoMemory as out_of_memory};
+
+    ghost from_gives = { λ _ f. f ≡ out_of_memory };
+
+    fn from(_: AllocFailed<T>) -> ScheduleFault {
         ScheduleFault::NoMemory
     }
 }

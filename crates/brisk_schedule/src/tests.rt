@@ -1,8 +1,12 @@
 //! A store is shown, and a schedule is played.
 ghost use Rattle.std.specs.Prelude.{◌≡◌, ◌<◌, ◌≤◌, length};
 ghost use Rattle.brisk_syntax.specs.WellTyped.{IsProgramWellTyped};
+ghost use Rattle.brisk_seq.specs.WellTyped.{IsSeqWellTyped};
 
-use crate::{Ended, Events, Schedule, play, print_played, print_store, write};
+use crate::{
+    Ended, Events, Schedule, ScheduleFault, play, print_played, print_store, read, read_choices,
+    write,
+};
 use brisk_async::{Event, StepFault};
 use brisk_seq::{Body, SeqProgram};
 use brisk_syntax::{Block, Channels, Decl, Decls, Enums, Program, Role, Roles};
@@ -153,5 +157,76 @@ fn a_schedule_is_written(rt: HostRuntime) -> Result<(), Fail> {
     let text = write(alloc, &schedule)?;
     let expected = b"brisk schedule 1\nsize Ws 2\nevent A from Ws[1] at 3\nend\n";
     assert_eq!(rt; text.as_slice(), expected.as_slice());
+    Ok(())
+}
+
+#[test]
+fn a_schedule_is_read(rt: HostRuntime) -> Result<(), Fail> {
+    let alloc = rt.alloc();
+    let program = without_roles(alloc);
+    let text = b"brisk schedule 1\nevent Q from R at 3\nend\n";
+    let schedule = read(alloc, &program, text)?;
+    assert_eq!(rt; schedule.instance.sizes.items.len(), 0);
+    assert_eq!(rt; schedule.events.items.len(), 1);
+    let event = &schedule.events.items[0];
+    assert_eq!(rt; event.process.role, named(b"Q"));
+    assert_eq!(rt; event.sender.map(|sender| sender.role), Some(named(b"R")));
+    assert_eq!(rt; event.place, Some(3));
+    assert_eq!(rt; write(alloc, &schedule)?.as_slice(), text.as_slice());
+    Ok(())
+}
+
+#[test]
+fn a_schedule_fails_at_its_first_wrong_line(rt: HostRuntime) {
+    let alloc = rt.alloc();
+    let program = without_roles(alloc);
+    let cases: [(&[u8], ScheduleFault); 8] = [
+        (b"", ScheduleFault::Text(1)),
+        (b"brisk schedule 1", ScheduleFault::Text(1)),
+        (b"brisk choices 1\n", ScheduleFault::Text(1)),
+        (b"end\n", ScheduleFault::Misfit(1)),
+        (b"brisk schedule 1\nturns 1\n", ScheduleFault::Text(2)),
+        (b"brisk schedule 1\nsize Ws 1\n", ScheduleFault::Misfit(2)),
+        (b"brisk schedule 1\nevent Q[0]\n", ScheduleFault::Misfit(2)),
+        (b"brisk schedule 1\nend\nx", ScheduleFault::Text(3)),
+    ];
+    for (text, fault) in cases {
+        assert_eq!(rt;
+            read(alloc, &program, text).err(),
+            Some(fault),
+            "at {text:?}"
+        );
+    }
+}
+
+fn without_items(alloc: Global) -> SeqProgram
+    ensures { IsSeqWellTyped result }
+{
+    SeqProgram {
+        enums: Enums {
+            items: Vec::new(alloc),
+        },
+        roles: Roles {
+            items: Vec::new(alloc),
+        },
+        body: Body {
+            items: Vec::new(alloc),
+        },
+    }
+}
+
+#[test]
+fn choices_are_read(rt: HostRuntime) -> Result<(), Fail> {
+    let alloc = rt.alloc();
+    let program = without_items(alloc);
+    let choices = read_choices(
+        alloc,
+        &program,
+        b"brisk choices 1\nturns 7\nchoose 0\nchoose 2\nend\n",
+    )?;
+    assert_eq!(rt; choices.turns, 7);
+    assert_eq!(rt; choices.picks.items.as_slice(), [0, 2].as_slice());
+    let late = read_choices(alloc, &program, b"brisk choices 1\nchoose 0\n");
+    assert_eq!(rt; late.err(), Some(ScheduleFault::Misfit(2)));
     Ok(())
 }

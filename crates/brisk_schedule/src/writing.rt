@@ -8,8 +8,8 @@ use brisk_lines::{Line, Process, put_line};
 use brisk_values::{Inputs, Instance, Name, NoMemory, Pid, Sizes};
 use std::alloc::Global;
 
-// Whether there is a size for the role.
-fn is_sized(sizes: &Sizes, role: &Name) -> bool
+/// Whether there is a size for the role.
+pub fn is_sized(sizes: &Sizes, role: &Name) -> bool
     ensures { result ≡ has_size sizes.now role.now }
 {
     for size in &sizes.items {
@@ -20,8 +20,8 @@ fn is_sized(sizes: &Sizes, role: &Name) -> bool
     false
 }
 
-// How a process is written.
-fn written(sizes: &Sizes, process: &Pid) -> Process
+/// How a process is written.
+pub fn written(sizes: &Sizes, process: &Pid) -> Process
     ensures { result ≡ written_in sizes.now process.now }
 {
     if is_sized(sizes, &process.role) {

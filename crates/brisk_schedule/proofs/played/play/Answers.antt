@@ -1,7 +1,6 @@
-use Rattle.std.proofs.Common.{◌≡◌, ◌+◌, take, drop, length, Some, None, refl, sym, ap, ◌∙◌, arith, subst}
+use Rattle.std.proofs.Common.{◌≡◌, ◌+◌, take, drop, Some, None, sym, ap, ◌∙◌, arith, subst}
 use Rattle.std.proofs.lemmas.List.{length-take}
-use Rattle.brisk_async.specs.declared.event.Event.{Event}
-use Rattle.brisk_async.specs.Machine.{run, start, step}
+use Rattle.brisk_async.specs.Machine.{start, step}
 use Rattle.brisk_async.specs.States.{Kept, state_of}
 use Rattle.brisk_async.specs.Refusals.{refusal}
 use Rattle.brisk_schedule.specs.declared.schedule.Schedule.{Schedule}

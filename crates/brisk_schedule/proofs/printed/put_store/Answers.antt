@@ -1,5 +1,4 @@
 use Rattle.std.proofs.Common.{refl, map, arith}
-use Rattle.brisk_syntax.specs.declared.program.Role.{Role}
 use Rattle.brisk_syntax.specs.Texts.{text_of}
 use Rattle.brisk_syntax.specs.Value.{size_in}
 use Rattle.brisk_values.specs.Places.{value_in}

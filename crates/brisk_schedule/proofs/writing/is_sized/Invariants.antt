@@ -1,4 +1,4 @@
-use Rattle.std.proofs.Common.{◌≡◌, map, drop}
+use Rattle.std.proofs.Common.{◌≡◌, drop}
 use Rattle.brisk_schedule.specs.Texts.{is_sized}
 use Rattle.brisk_schedule.proofs.writing.is_sized.Given as goal
 

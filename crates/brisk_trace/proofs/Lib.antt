@@ -1,0 +1,9 @@
+pub mod Deadlocked
+pub mod Follows
+pub mod Histories
+pub mod Instances
+pub mod Kept
+pub mod Nexts
+pub mod Sampled
+pub mod Steady
+pub mod Watched

@@ -1,30 +1,22 @@
 -- What is answered for words and files.
-use Rattle.std.specs.Prelude.{◌≡◌, ℕ, nat_le, Bool, true, false, if◌then◌else◌, List, [], ◌∷◌, ◌++◌, length, take, codes, slice_get, Option, Some, None, option_map, Result, Ok, Err}
-use Rattle.std.specs.Option.{unwrap_or}
-use Rattle.std.specs.Str.{bytes_eq}
-use Rattle.std.specs.Fmt.{decimal}
-use Rattle.brisk_io.specs.Causes.{Files}
-use Rattle.brisk_lex.specs.declared.token.Placed.{Placed}
-use Rattle.brisk_lex.specs.declared.fault.LexFault.{LexFault}
-use Rattle.brisk_lex.specs.declared.fault.LexFault.TheVariants as lex
-use Rattle.brisk_lex.specs.Tokens.{tokens}
-use Rattle.brisk_parse.specs.declared.fault.ParseFault.{ParseFault}
-use Rattle.brisk_parse.specs.declared.fault.ParseFault.TheVariants as parse
-use Rattle.brisk_parse.specs.Answers.{Read, IsAnswer}
-use Rattle.brisk_parse.specs.Declarations.{program}
-use Rattle.brisk_parse.specs.Limits.{source}
+use Rattle.std.specs.Prelude.{◌≡◌, ℕ, nat_eq, nat_le, Bool, true, false, IsTrue, List, [], length, take, codes, Option, Some, None, IfSome, Result, Ok, Err}
+use Rattle.brisk_io.specs.Causes.{Files, Rose}
 use Rattle.brisk_print.specs.Layout.{sequential}
-use Rattle.brisk_types.specs.Declarations.{failures}
-use Rattle.brisk_types.specs.Failures.{IsChecked}
-use Rattle.brisk_types.specs.declared.fault.TypeFault.{TypeFault}
-use Rattle.brisk_types.specs.declared.fault.TypeFault.TheVariants as types
 use Rattle.brisk_syntax.specs.declared.program.Program.{Program}
 use Rattle.brisk_seq.specs.declared.tree.SeqProgram.{SeqProgram}
+use Rattle.brisk_cli.specs.declared.answer.Answer.{Answer}
+use Rattle.brisk_cli.specs.declared.answer.Stopped.{Stopped}
+use Rattle.brisk_cli.specs.declared.answer.Stopped.TheVariants as stopped
 use Rattle.brisk_cli.specs.declared.status.Status.{Status}
 use Rattle.brisk_cli.specs.declared.status.Status.TheVariants.{Done, Refused, Usage, BadInput, NoFile, ReadFault, WriteFault, NoMemory}
+use Rattle.brisk_cli.specs.Commands.{Command, Rewrite, Run, Order, command_of}
 use Rattle.brisk_cli.specs.Files.{Text, Put}
 use Rattle.brisk_cli.specs.Fragment.{in_fragment}
+use Rattle.brisk_cli.specs.Languages.{OfText, sources, sequences}
+use Rattle.brisk_cli.specs.Lines.{file_line}
+use Rattle.brisk_cli.specs.Orders.{OfChoices}
 use Rattle.brisk_cli.specs.Rewriting.{IsStuck, Sequenced}
+use Rattle.brisk_cli.specs.Runs.{OfSchedule}
 
 -- the number with which the program ends
 abbrev pub number_of : Status → ℕ
@@ -37,47 +29,7 @@ number_of ReadFault = 4
 number_of WriteFault = 5
 number_of NoMemory = 6
 
--- the file that the words `rewrite F` name
-abbrev pub file_of : List Text → Option Text
-file_of (w ∷ f ∷ []) = if bytes_eq w (codes "rewrite") then Some f else None
-file_of words = None
-
--- ---- lines
-
-abbrev pub file_text : Text → Text → Text
-file_text name what = codes "file " ++ name ++ codes " " ++ what ++ codes "\n"
-
-abbrev pub source_text : Text → ℕ → Text
-source_text what at = codes "source " ++ what ++ codes " " ++ decimal at ++ codes "\n"
-
-abbrev pub lex_text : LexFault → Text
-lex_text (lex.NotUtf8 at) = source_text (codes "NotUtf8") at
-lex_text (lex.BadChar at) = source_text (codes "BadChar") at
-lex_text (lex.NumberTooLarge at) = source_text (codes "NumberTooLarge") at
-lex_text (lex.NameTooLong at) = source_text (codes "NameTooLong") at
-lex_text lex.NoMemory = []
-
--- the byte where a token begins, or the end of the text
-abbrev pub byte_of : List Placed → ℕ → ℕ → ℕ
-byte_of ts end k = unwrap_or (option_map (λ p. p.at) (slice_get ts k)) end
-
-abbrev pub parse_text : List Placed → ℕ → ParseFault → Text
-parse_text ts end (parse.SyntaxFault k) = source_text (codes "SyntaxFault") (byte_of ts end k)
-parse_text ts end (parse.TooDeep k) = source_text (codes "TooDeep") (byte_of ts end k)
-parse_text ts end (parse.TooMany k) = source_text (codes "TooMany") (byte_of ts end k)
-parse_text ts end parse.NoMemory = []
-
-abbrev pub type_text : List Placed → ℕ → TypeFault → Text
-type_text ts end (types.Unknown k) = source_text (codes "Unknown") (byte_of ts end k)
-type_text ts end (types.Twice k) = source_text (codes "Twice") (byte_of ts end k)
-type_text ts end (types.NotASet k) = source_text (codes "NotASet") (byte_of ts end k)
-type_text ts end (types.NotSingle k) = source_text (codes "NotSingle") (byte_of ts end k)
-type_text ts end (types.SelfPartner k) = source_text (codes "SelfPartner") (byte_of ts end k)
-type_text ts end (types.WrongCount k) = source_text (codes "WrongCount") (byte_of ts end k)
-type_text ts end (types.WrongKind k) = source_text (codes "WrongKind") (byte_of ts end k)
-type_text ts end types.NoMemory = []
-
--- ---- answers
+-- ---- rewriting
 
 -- the answer for a program of the fragment: its sequential program, or that it has none
 abbrev pub OfFragment : Program → Status → Text → Type 0
@@ -85,80 +37,115 @@ OfFragment P Done text = (Q : SeqProgram) × Sequenced P Q × (text ≡ sequenti
 OfFragment P Refused text = IsStuck P.roles × (text ≡ codes "not sequenced\n")
 OfFragment P status text = ⊥
 
--- the answer for a well-typed program
-abbrev pub OfWellTyped : Bool → Program → Status → Text → Type 0
-OfWellTyped true P status text = OfFragment P status text
-OfWellTyped false P status text = (status ≡ BadInput) × (text ≡ codes "source NotInFragment\n")
+-- by whether the program is of the fragment: the answer for it, or that it isn't
+abbrev pub OfRewritingBy : Bool → Program → Status → Text → Type 0
+OfRewritingBy true P status text = OfFragment P status text
+OfRewritingBy false P status text = (status ≡ BadInput) × (text ≡ codes "source NotInFragment\n")
 
--- the answer for how a program is typed
-abbrev pub OfTyping : List Placed → ℕ → Program → Result (Unit {0}) TypeFault → Status → Text → Type 0
-OfTyping ts end P (Ok typed) status text = OfWellTyped (in_fragment P) P status text
-OfTyping ts end P (Err types.NoMemory) status text = ⊥
-OfTyping ts end P (Err fault) status text = (status ≡ BadInput) × (text ≡ type_text ts end fault)
+-- the answer for a well-typed program that is to be rewritten
+abbrev pub OfRewriting : Program → Status → Text → Type 0
+OfRewriting P status text = OfRewritingBy (in_fragment P) P status text
 
--- the answer for a program with these tokens: it is well typed, or its first failure is told
-pub record OfProgram (ts : List Placed) (end : ℕ) (P : Program) (status : Status) (text : Text) : Type 0 where
-  pub typing : Result (Unit {0}) TypeFault
-  pub checked : IsChecked (failures P) typing
-  pub answered : OfTyping ts end P typing status text
+-- ---- files
 
--- the answer for what tokens are read as
-abbrev pub OfReading : List Placed → ℕ → Result Program ParseFault → Status → Text → Type 0
-OfReading ts end (Ok P) status text = OfProgram ts end P status text
-OfReading ts end (Err parse.NoMemory) status text = ⊥
-OfReading ts end (Err fault) status text = (status ≡ BadInput) × (text ≡ parse_text ts end fault)
+-- the greatest numbers of bytes of a source, of a sequential text, and of a schedule or choices
+abbrev pub source_limit : ℕ
+source_limit = 1048576
 
--- the answer for tokens: they are read as the program that they denote, or as the first fault
-pub record OfTokens (ts : List Placed) (end : ℕ) (status : Status) (text : Text) : Type 0 where
-  pub reading : Result Program ParseFault
-  pub read : Read (length ts) (program source ts) reading
-  pub answer : IsAnswer ts reading
-  pub answered : OfReading ts end reading status text
+abbrev pub sequential_limit : ℕ
+sequential_limit = 16777216
 
-abbrev pub OfCut : ℕ → Result (List Placed) LexFault → Status → Text → Type 0
-OfCut end (Ok ts) status text = OfTokens ts end status text
-OfCut end (Err fault) status text = (status ≡ BadInput) × (text ≡ lex_text fault)
+abbrev pub schedule_limit : ℕ
+schedule_limit = 4194304
 
--- the answer for the bytes of a source
-abbrev pub OfSource : Text → Status → Text → Type 0
-OfSource bytes status text = OfCut (length bytes) (tokens bytes) status text
+-- by whether the bytes are few enough: what follows for them, or that the file is too long
+abbrev pub OfSized : Bool → Text → Text → (Text → Status → Text → Type 0) → Status → Text → Type 0
+OfSized true name bytes next status text = next bytes status text
+OfSized false name bytes next status text = (status ≡ BadInput) × (text ≡ file_line name (codes "TooLong"))
 
--- the greatest number of bytes of a source
-abbrev pub limit : ℕ
-limit = 1048576
+-- the answer for a file, where it is said whether reading it failed, and this follows for its bytes
+abbrev pub OfFile : ℕ → Text → Option Text → Bool → (Text → Status → Text → Type 0) → Status → Text → Type 0
+OfFile limit name file true next status text = (status ≡ ReadFault) × (text ≡ file_line name (codes "Failed"))
+OfFile limit name None false next status text = (status ≡ NoFile) × (text ≡ file_line name (codes "Missing"))
+OfFile limit name (Some bytes) false next status text = OfSized (nat_le (length bytes) limit) name bytes next status text
 
-abbrev pub OfSized : Bool → Text → Text → Status → Text → Type 0
-OfSized true name bytes status text = OfSource bytes status text
-OfSized false name bytes status text = (status ≡ BadInput) × (text ≡ file_text name (codes "TooLong"))
+-- the file isn't read, and this is answered; its read failed only if the folder's count of faults rose
+pub record IsUnreadable (faults faults' limit : ℕ) (name : Text) (file : Option Text) (status : Status) (text : Text) : Type 0 where
+  pub failed : Bool
+  pub rose : IsTrue failed → Rose faults faults'
+  pub answer : OfFile limit name file failed (λ bytes any_status any_text. ⊥) status text
 
--- the answer for a file, where reading it may fail
-abbrev pub OfFile : Text → Option Text → Status → Text → Type 0
-OfFile name file ReadFault text = text ≡ file_text name (codes "Failed")
-OfFile name None status text = (status ≡ NoFile) × (text ≡ file_text name (codes "Missing"))
-OfFile name (Some bytes) status text = OfSized (nat_le (length bytes) limit) name bytes status text
+-- the file at this place among the words' files is the one whose read failed
+abbrev pub is_failed : ℕ → Option ℕ → Bool
+is_failed place None = false
+is_failed place (Some failed) = nat_eq place failed
 
--- the answer for words, where the files are told
-abbrev pub OfWords : Option Text → Files → Status → Text → Type 0
-OfWords None files status text = (status ≡ Usage) × (text ≡ codes "usage\n")
-OfWords (Some name) files status text = OfFile name (files name) status text
+-- ---- commands
+
+-- `rewrite F`: the source is read and judged, and rewritten
+abbrev pub OfRewrite : Text → Files → Option ℕ → Status → Text → Type 0
+OfRewrite f files failed status text =
+    OfFile source_limit f (files f) (is_failed 0 failed) (λ bytes. OfText sources bytes OfRewriting) status text
+
+-- `run F SCHEDULE`: the source is read and judged, then the schedule is read and judged, and played
+abbrev pub OfRun : Text → Text → Files → Option ℕ → Status → Text → Type 0
+OfRun f g files failed status text =
+    OfFile source_limit f (files f) (is_failed 0 failed) (λ bytes. OfText sources bytes (λ P. OfFile schedule_limit g (files g) (is_failed 1 failed) (OfSchedule P))) status text
+
+-- `order SEQ CHOICES`: the sequential text is read and judged, then the choices are read and judged, and it is run on them
+abbrev pub OfOrder : Text → Text → Files → Option ℕ → Status → Text → Type 0
+OfOrder f g files failed status text =
+    OfFile sequential_limit f (files f) (is_failed 0 failed) (λ bytes. OfText sequences bytes (λ Q. OfFile schedule_limit g (files g) (is_failed 1 failed) (OfChoices Q))) status text
+
+-- the answer for words, where the files are told, and the place of the one whose read failed
+abbrev pub OfWords : Option Command → Files → Option ℕ → Status → Text → Type 0
+OfWords None files failed status text = (status ≡ Usage) × (text ≡ codes "usage\n")
+OfWords (Some (Rewrite f)) files failed status text = OfRewrite f files failed status text
+OfWords (Some (Run f g)) files failed status text = OfRun f g files failed status text
+OfWords (Some (Order f g)) files failed status text = OfOrder f g files failed status text
+
+-- an answer, where a read failed only if the folder's count of faults rose
+pub record Replies (faults faults' : ℕ) (rule : Option ℕ → Status → Text → Type 0) (status : Status) (text : Text) : Type 0 where
+  pub failed : Option ℕ
+  pub rose : IfSome failed (λ place. Rose faults faults')
+  pub answer : rule failed status text
+
+-- ---- what is answered on the way
+
+-- the rule holds of what is answered instead
+abbrev pub IsTold : (Status → Text → Type 0) → Stopped → Type 0
+IsTold rule (stopped.Told a) = rule a.status a.text.items
+IsTold rule stopped.NoMemory = Unit {0}
+
+-- the rule holds of what is answered
+abbrev pub IfAnswer : (Status → Text → Type 0) → Result Answer Stopped → Type 0
+IfAnswer rule (Ok a) = rule a.status a.text.items
+IfAnswer rule (Err e) = IsTold rule e
+
+-- the status may be answered for a command: NoFile and ReadFault only where the folder's counts rose, and never Usage,
+-- WriteFault or NoMemory
+abbrev pub IsDue : (misses misses' faults faults' : ℕ) → Status → Type 0
+IsDue misses misses' faults faults' NoFile = Rose misses misses'
+IsDue misses misses' faults faults' ReadFault = Rose faults faults'
+IsDue misses misses' faults faults' Usage = ⊥
+IsDue misses misses' faults faults' WriteFault = ⊥
+IsDue misses misses' faults faults' NoMemory = ⊥
+IsDue misses misses' faults faults' status = Unit {0}
+
+-- the same for words, of which those without a form have the status Usage
+abbrev pub IsDueFor : Option Command → (misses misses' faults faults' : ℕ) → Status → Type 0
+IsDueFor None misses misses' faults faults' status = status ≡ Usage
+IsDueFor (Some command) misses misses' faults faults' status = IsDue misses misses' faults faults' status
 
 -- ---- what is written
 
--- before anything is written the status is Usage exactly where the words name no file, and no fault of the sink or want of memory
-abbrev pub IsBefore : Option Text → Status → Type 0
-IsBefore None status = status ≡ Usage
-IsBefore (Some name) Usage = ⊥
-IsBefore (Some name) WriteFault = ⊥
-IsBefore (Some name) NoMemory = ⊥
-IsBefore (Some name) status = Unit {0}
-
--- the status is Usage exactly where the words name no file, unless the sink failed or memory ran out
-abbrev pub IsServed : Option Text → Status → Type 0
-IsServed file WriteFault = Unit {0}
-IsServed file NoMemory = Unit {0}
+-- the status is Usage exactly where the words have no form, unless the sink failed or memory ran out
+abbrev pub IsServed : Option Command → Status → Type 0
+IsServed command WriteFault = Unit {0}
+IsServed command NoMemory = Unit {0}
 IsServed None status = status ≡ Usage
-IsServed (Some name) Usage = ⊥
-IsServed (Some name) status = Unit {0}
+IsServed (Some command) Usage = ⊥
+IsServed (Some command) status = Unit {0}
 
 -- the whole text was written, or where the sink failed some of its front
 abbrev pub Wrote : Option Text → Option Text → Text → Status → Type 0
@@ -170,8 +157,16 @@ abbrev pub IsUnlessWriteFault : Status → Status → Type 0
 IsUnlessWriteFault answer WriteFault = Unit {0}
 IsUnlessWriteFault answer status = status ≡ answer
 
+-- an answer for the words, which is written; it says that a read failed only if the folder's count of faults rose
+pub record IsAnswered (words : List Text) (files : Files) (faults faults' : ℕ) (old new : Option Text) (status : Status) : Type 0 where
+  pub answer : Status
+  pub text : Text
+  pub tells : Replies faults faults' (OfWords (command_of words) files) answer text
+  pub is_status : IsUnlessWriteFault answer status
+  pub wrote : Wrote old new text status
+
 -- an answer for the words is written; want of memory alone answers none, and then nothing is written
-abbrev pub Answered : List Text → Option Files → Option Text → Option Text → Status → Type 0
-Answered words files old new NoMemory = Put old new []
-Answered words None old new status = Unit {0}
-Answered words (Some files) old new status = (answer : Status) × (text : Text) × OfWords (file_of words) files answer text × IsUnlessWriteFault answer status × Wrote old new text status
+abbrev pub Answered : List Text → Option Files → (faults faults' : ℕ) → Option Text → Option Text → Status → Type 0
+Answered words files faults faults' old new NoMemory = Put old new []
+Answered words None faults faults' old new status = Unit {0}
+Answered words (Some files) faults faults' old new status = IsAnswered words files faults faults' old new status

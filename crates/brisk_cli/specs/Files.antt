@@ -8,17 +8,17 @@ use Rattle.brisk_cli.specs.declared.files.Unread.TheVariants.{Missing, Failed, T
 abbrev pub Text : Type 0
 Text = List ℕ
 
--- why a file that is told wasn't read: it isn't there, or it is longer than a source may be
-abbrev pub IsUnread : Option Text → Unread → Type 0
-IsUnread file Missing = file ≡ None
-IsUnread file TooLong = (bytes : Text) × (file ≡ Some bytes) × (1048576 < length bytes)
-IsUnread file Failed = Unit {0}
-IsUnread file NoMemory = Unit {0}
+-- why a file that is told wasn't read: it isn't there, or it is longer than the limit
+abbrev pub IsUnread : ℕ → Option Text → Unread → Type 0
+IsUnread limit file Missing = file ≡ None
+IsUnread limit file TooLong = (bytes : Text) × (file ≡ Some bytes) × (limit < length bytes)
+IsUnread limit file Failed = Unit {0}
+IsUnread limit file NoMemory = Unit {0}
 
 -- what was read of a file that is told is all of it
-abbrev pub IsWhole : Option Text → Result (Vec ℕ Global) Unread → Type 0
-IsWhole file (Ok v) = file ≡ Some v.items
-IsWhole file (Err unread) = IsUnread file unread
+abbrev pub IsWhole : ℕ → Option Text → Result (Vec ℕ Global) Unread → Type 0
+IsWhole limit file (Ok v) = file ≡ Some v.items
+IsWhole limit file (Err unread) = IsUnread limit file unread
 
 -- what was written before and then these bytes, where it is told
 abbrev pub Put : Option Text → Option Text → Text → Type 0

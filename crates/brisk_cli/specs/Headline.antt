@@ -11,7 +11,7 @@ use Rattle.brisk_seq.specs.declared.tree.SeqProgram.{SeqProgram}
 use Rattle.brisk_loops.specs.Faithful.{Faithful}
 use Rattle.brisk_cli.specs.declared.status.Status.{Status}
 use Rattle.brisk_cli.specs.declared.status.Status.TheVariants.{Done}
-use Rattle.brisk_cli.specs.Answers.{file_of}
+use Rattle.brisk_cli.specs.Commands.{Rewrite, command_of}
 use Rattle.brisk_cli.specs.Files.{Text, Put}
 
 -- The source holds a well-typed program, and the text is the layout of a sequential program that is faithful to it: no state
@@ -26,8 +26,9 @@ pub record IsFaithful (source text : Text) : Type 0 where
   pub is_layout : text ≡ layout.sequential sequential
   pub faithful : Faithful program sequential
 
--- where the status is that of success, the words name a source that is there, and what is written is faithful to it
+-- where the status is that of success and the words are `rewrite F`, F is a source that is there, and what is written is
+-- faithful to it
 abbrev pub Headline : List Text → Option Files → Option Text → Option Text → Status → Type 0
 Headline words (Some files) old new Done =
-    (name : Text) × (source : Text) × (text : Text) × (file_of words ≡ Some name) × (files name ≡ Some source) × IsFaithful source text × Put old new text
+    (name : Text) → command_of words ≡ Some (Rewrite name) → (source : Text) × (text : Text) × (files name ≡ Some source) × IsFaithful source text × Put old new text
 Headline words files old new status = Unit {0}

@@ -1,5 +1,11 @@
 pub mod Answers
+pub mod Commands
 pub mod Files
+pub mod Formats
 pub mod Fragment
 pub mod Headline
+pub mod Languages
+pub mod Lines
+pub mod Orders
 pub mod Rewriting
+pub mod Runs

@@ -1,11 +1,17 @@
-//! Rewrites programs of processes into sequential programs.
+//! Rewrites programs of processes into sequential programs, and runs both.
 #![tactic(auto)]
 
 mod answer;
+mod commands;
+mod faults;
 mod files;
 mod fragment;
+mod order;
 mod rewriting;
+mod rewritten;
+mod run;
 mod serve;
+mod source;
 mod status;
 #[cfg(test)]
 mod tests;

@@ -202,3 +202,224 @@ fn a_failing_sink_has_the_front_of_the_text(rt: HostRuntime) -> Result<(), Fail>
     );
     Ok(())
 }
+
+const SEVEN: &str = "brisk schedule 1
+input A.n = 7
+event A
+event B
+event B
+event A
+end
+";
+
+const HALTED: &str = "halted
+A.n = 7
+A.r = 8
+B.x = 7
+";
+
+// The status and the text for these words, where the files F and S have these bytes.
+fn served_two(
+    alloc: Global,
+    text: &str,
+    first: &str,
+    second: &[u8],
+    plan: &[bool],
+) -> Result<(Status, Vec<u8>), Fail> {
+    let mut folder = folder(alloc, first.as_bytes(), plan)?;
+    folder.files.push(File {
+        name: String::from_str(alloc, "S")?,
+        bytes: Vec::from_slice(alloc, second)?,
+    })?;
+    let mut out = MemSink::new(alloc, 4096, 100, Vec::new(alloc))?;
+    let status = serve(alloc, &words(alloc, text)?, &mut folder, &mut out);
+    Ok((status, Vec::from_slice(alloc, out.written())?))
+}
+
+#[test]
+fn each_schedule_has_its_answer(rt: HostRuntime) -> Result<(), Fail> {
+    for (schedule, status, text) in [
+        (SEVEN, Status::Done, HALTED),
+        (
+            "brisk schedule 1\ninput A.n = 7\nevent A\nend\n",
+            Status::Done,
+            "running\nA.n = 7\nA.r = 0\nB.x = 0\nleft A: recv Pong(r) from B;\nleft B: recv Ping(x) from A;\nmail A to B Ping 1\n",
+        ),
+        (
+            "brisk schedule 1\ninput A.n = 7\nevent A\nevent A\nend\n",
+            Status::Refused,
+            "refused 2 Blocked\nA.n = 7\nA.r = 0\nB.x = 0\nleft A: recv Pong(r) from B;\nleft B: recv Ping(x) from A;\nmail A to B Ping 1\n",
+        ),
+        ("brisk schedule 2\n", Status::BadInput, "schedule Text 1\n"),
+        (
+            "brisk schedule 1\nend\n",
+            Status::BadInput,
+            "schedule Misfit 2\n",
+        ),
+    ] {
+        let (answer, written) = served_two(
+            rt.alloc(),
+            "run F S",
+            PING_PONG,
+            schedule.as_bytes(),
+            &[],
+        )?;
+        assert_eq!(rt; answer, status, "of {schedule}");
+        assert_eq!(rt; written.as_slice(), text.as_bytes(), "of {schedule}");
+    }
+    Ok(())
+}
+
+#[test]
+fn each_text_of_choices_has_its_answer(rt: HostRuntime) -> Result<(), Fail> {
+    let loops = "one A { var x : bool = true; } begin while A.(x) { } end";
+    let picks = "many Ws { } begin pick Ws { } end";
+    let takes = "one A { var x : int = 0; } begin A.(x) := box 1 (A to A); end";
+    for (sequential, choices, status, text) in [
+        (
+            PING_PONG_REWRITTEN,
+            "brisk choices 1\ninput A.n = 7\nturns 0\nend\n",
+            Status::Done,
+            HALTED,
+        ),
+        (
+            PING_PONG_REWRITTEN,
+            "brisk choices 1\ninput A.n = 7\nturns 0\nchoose 0\nend\n",
+            Status::Refused,
+            "refused ChoicesLeft\n",
+        ),
+        (
+            loops,
+            "brisk choices 1\nturns 3\nend\n",
+            Status::Refused,
+            "refused Turns\n",
+        ),
+        (
+            picks,
+            "brisk choices 1\nsize Ws 1\nturns 0\nend\n",
+            Status::Refused,
+            "refused BadChoice 1\n",
+        ),
+        (
+            takes,
+            "brisk choices 1\nturns 0\nend\n",
+            Status::Refused,
+            "refused BadBox 1\n",
+        ),
+        (
+            takes,
+            "brisk choices 1\nend\n",
+            Status::BadInput,
+            "choices Misfit 2\n",
+        ),
+    ] {
+        let (answer, written) = served_two(
+            rt.alloc(),
+            "order F S",
+            sequential,
+            choices.as_bytes(),
+            &[],
+        )?;
+        assert_eq!(rt; answer, status, "of {sequential}");
+        assert_eq!(rt; written.as_slice(), text.as_bytes(), "of {sequential}");
+    }
+    Ok(())
+}
+
+#[test]
+fn the_first_text_is_judged_before_the_second_is_read(rt: HostRuntime) -> Result<(), Fail> {
+    for (text, first, status, expected) in [
+        (
+            "run F none",
+            "one A {",
+            Status::BadInput,
+            "source SyntaxFault 7\n",
+        ),
+        (
+            "run F none",
+            PING_PONG,
+            Status::NoFile,
+            "file none Missing\n",
+        ),
+        (
+            "run none S",
+            PING_PONG,
+            Status::NoFile,
+            "file none Missing\n",
+        ),
+        (
+            "order F none",
+            "begin $",
+            Status::BadInput,
+            "sequential BadChar 6\n",
+        ),
+        (
+            "order F none",
+            "begin A.(x) := A.(1); end",
+            Status::BadInput,
+            "sequential Unknown 6\n",
+        ),
+        (
+            "order F none",
+            "begin end",
+            Status::NoFile,
+            "file none Missing\n",
+        ),
+        ("run F", PING_PONG, Status::Usage, "usage\n"),
+        ("order F", PING_PONG, Status::Usage, "usage\n"),
+        ("rewrite F S", PING_PONG, Status::Usage, "usage\n"),
+        ("run F S S", PING_PONG, Status::Usage, "usage\n"),
+    ] {
+        let (answer, written) = served_two(rt.alloc(), text, first, b"", &[])?;
+        assert_eq!(rt; answer, status, "of {text}, {first}");
+        assert_eq!(rt;
+            written.as_slice(),
+            expected.as_bytes(),
+            "of {text}, {first}"
+        );
+    }
+    Ok(())
+}
+
+#[test]
+fn the_file_whose_read_fails_is_told(rt: HostRuntime) -> Result<(), Fail> {
+    let plan = [false, false, true];
+    let (status, written) = served_two(rt.alloc(), "run F S", PING_PONG, SEVEN.as_bytes(), &plan)?;
+    assert_eq!(rt; status, Status::ReadFault);
+    assert_eq!(rt; written.as_slice(), b"file S Failed\n".as_slice());
+    let plan = [false, true];
+    let (status, written) = served_two(rt.alloc(), "run F S", PING_PONG, SEVEN.as_bytes(), &plan)?;
+    assert_eq!(rt; status, Status::ReadFault);
+    assert_eq!(rt; written.as_slice(), b"file F Failed\n".as_slice());
+    Ok(())
+}
+
+#[test]
+fn a_schedule_has_at_most_4194304_bytes(rt: HostRuntime) -> Result<(), Fail> {
+    let alloc = rt.alloc();
+    let mut schedule = vec![in alloc; b' '; 4_194_304]?;
+    let (status, written) = served_two(alloc, "run F S", "", &schedule, &[])?;
+    assert_eq!(rt; status, Status::BadInput);
+    assert_eq!(rt; written.as_slice(), b"schedule Text 1\n".as_slice());
+    schedule.push(b' ')?;
+    let (status, written) = served_two(alloc, "run F S", "", &schedule, &[])?;
+    assert_eq!(rt; status, Status::BadInput);
+    assert_eq!(rt; written.as_slice(), b"file S TooLong\n".as_slice());
+    Ok(())
+}
+
+#[test]
+fn a_hundred_thousand_events_are_taken_in_seconds(rt: HostRuntime) -> Result<(), Fail> {
+    let alloc = rt.alloc();
+    let sender = "channel T(int); one A { while true { send T(1) to B; } } one B { }";
+    let mut schedule = Vec::from_slice(alloc, b"brisk schedule 1\n")?;
+    for _ in 0..100_000 {
+        schedule.extend_from_slice(b"event A\n")?;
+    }
+    schedule.extend_from_slice(b"end\n")?;
+    let (status, written) = served_two(alloc, "run F S", sender, &schedule, &[])?;
+    assert_eq!(rt; status, Status::Done);
+    let expected = b"running\nleft A: while true {\nmail A to B T 50000\n";
+    assert_eq!(rt; written.as_slice(), expected.as_slice());
+    Ok(())
+}

@@ -17,4 +17,4 @@ loop-piece-preserved g c = record {
 
 pub returns-clause-told : goal.returns-clause-told
 returns-clause-told g c =
-    too_long (g.F.Folder.files c.args.folder.now) c.args.name.now c.loop-piece.bytes.items 1048576 c.loop-piece.invariant.front (omega (arith, c.len.ensures, c.loop-piece-test.false, c.loop-piece.bytes.ok.0))
+    too_long (g.F.Folder.files c.args.folder.now) c.args.name.now c.loop-piece.bytes.items c.args.limit c.loop-piece.invariant.front (omega (arith, c.len.ensures, c.loop-piece-test.false, c.loop-piece.bytes.ok.0))

@@ -1,4 +1,4 @@
-use Rattle.std.proofs.Common.{◌≡◌, ◌-◌, ◌≤◌, length}
+use Rattle.std.proofs.Common.{◌≡◌, ◌+◌, ◌-◌, ◌≤◌, length}
 use Rattle.brisk_cli.proofs.Pieces.{IsFront}
 use Rattle.brisk_cli.proofs.files.read_file.Given as goal
 
@@ -13,4 +13,4 @@ invariant-loop-piece g l = record {
 }
 
 abbrev pub decreases-loop-piece : goal.decreases-loop-piece
-decreases-loop-piece g l = 1048577 - length l.bytes.items
+decreases-loop-piece g l = l.limit + 1 - length l.bytes.items

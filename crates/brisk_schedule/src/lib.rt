@@ -1,4 +1,4 @@
-//! Schedules and choices: schedules written, played on a machine, and the texts of how they end.
+//! Schedules and choices: read, written and played on a machine, and the texts of how they end.
 #![tactic(auto)]
 
 mod events;

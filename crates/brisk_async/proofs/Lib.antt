@@ -1,6 +1,5 @@
 pub mod Alone
 pub mod Begins
-pub mod Changed
 pub mod Events
 pub mod Expressions
 pub mod Heads

@@ -1,6 +1,6 @@
 -- Numbers of messages, gathered queue by queue under their ranks, and told in order.
 use Rattle.std.proofs.Common.{◌≡◌, ◌<◌, ℕ, Bool, true, false, cond, List, [], ◌∷◌, length, map, Option, Some, None, IsSome, refl, sym, ap, subst, ◌∙◌, arith}
-use Rattle.std.specs.Prelude.{◌↔◌, is_some}
+use Rattle.std.specs.Prelude.{is_some}
 use Rattle.std.specs.Ordering.{nat_cmp}
 use Rattle.std.specs.declared.cmp.Ordering.TheVariants.{Less}
 use Rattle.std.specs.Cmp.{IsTotalOrder, eq_by_cmp_equiv}
@@ -20,7 +20,7 @@ use Rattle.brisk_async.specs.declared.queue.Queue.{Queue as Counted}
 use Rattle.brisk_async.specs.declared.queue.Rank.{Rank}
 use Rattle.brisk_async.specs.InOrder.{AreQueues, place_cmp, queue_told, rank, rank_cmp}
 use Rattle.brisk_async.specs.Keys.{key_cmp, key_of, mail_in, or_nil, queue_of}
-use Rattle.brisk_async.specs.Machine.{Mail, Payload, Queue}
+use Rattle.brisk_async.specs.Machine.{Mail, Payload}
 use Rattle.brisk_async.specs.Ranks.{AreNumbers, Waits, told_by}
 use Rattle.brisk_async.proofs.Maps.{exact_keys, get_listed, key_total}
 

@@ -12,4 +12,3 @@ pub mod Ranks
 pub mod Refusals
 pub mod Sample
 pub mod States
-pub mod There

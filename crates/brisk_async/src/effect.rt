@@ -1,26 +1,23 @@
 //! What an event does, found without changing the machine.
-ghost use Rattle.std.specs.Prelude.{◌≡◌, IfOk, IsSome, false, ℕ, Bool, Option as Opt, ◌+◌, if◌then◌else◌, nat_lt, map};
+ghost use Rattle.std.specs.Prelude.{◌≡◌, IfOk, IsSome, false, ℕ, Bool, Option as Opt, ◌+◌, if◌then◌else◌, nat_lt};
 ghost use Rattle.brisk_values.specs.Names.{Name as Bytes, member};
-ghost use Rattle.brisk_syntax.specs.Stores.{is_true as is_true_value};
 ghost use Rattle.brisk_syntax.specs.Substitution.{code_with};
 ghost use Rattle.brisk_values.specs.Places.{value_in};
-ghost use Rattle.brisk_syntax.specs.Declarations.{is_loose as is_loose_in};
 ghost use Rattle.brisk_syntax.specs.Segments.{head_of, rest_of};
 ghost use Rattle.brisk_syntax.specs.Statements.{statement_of};
-ghost use Rattle.brisk_syntax.specs.Expressions.{expression_of};
-ghost use Rattle.brisk_syntax.specs.Syntax.{Code as Tree, ◌⨾◌, ◌then◌, For, Repeat};
-ghost use Rattle.brisk_syntax.specs.Value.{value_of, size_in};
+ghost use Rattle.brisk_syntax.specs.Syntax.{◌⨾◌, ◌then◌, For, Repeat};
+ghost use Rattle.brisk_syntax.specs.Value.{size_in};
 ghost use Rattle.brisk_async.specs.Machine.{Queue, Payload as Paid, partner as partner_of, is_member as is_member_of, effect};
 ghost use Rattle.brisk_async.specs.Effects.{next_of, looks};
 ghost use Rattle.brisk_async.specs.Acts.{effect_if, is_receive};
 
 use crate::codes::Next;
-use crate::mail::{Key, Payload};
+use crate::mail::Key;
 use brisk_syntax::{
-    Block, Channels, Code, Exprs, Loop, Names, Stmt, Turns, Who, copy_code, eval, size_of_set,
+    Block, Code, Loop, Names, Stmt, Turns, Who, copy_code, eval, eval_all, is_true, size_of_set,
     subst,
 };
-use brisk_values::{Name, NoMemory, Pid, Sizes, Store, Value, same_name};
+use brisk_values::{Name, NoMemory, Pid, Sizes, Store, Value, Values, same_name};
 use std::alloc::Global;
 use std::rc::Rc;
 
@@ -29,9 +26,9 @@ use std::rc::Rc;
 pub enum Change {
     Nothing,
     Stores(Name, Value),
-    Sends(Key, Payload),
+    Sends(Key, Values),
     /// The queue, the place, and the variables with the values that they get.
-    Takes(Key, u32, Names, Payload),
+    Takes(Key, u32, Names, Values),
 }
 
 /// What an event does.
@@ -59,30 +56,6 @@ pub fn is_member(sizes: &Sizes, set: &Name, process: &Pid) -> bool
     ensures { result ≡ is_member_of (size_in sizes.now) set.now process.now }
 {
     same_name(set, &process.role) && process.member < size_of_set(sizes, set)
-}
-
-/// Whether a channel is declared loose.
-pub fn is_loose(channels: &Channels, channel: &Name) -> bool
-    ensures { result ≡ is_loose_in channels.now channel.now }
-{
-    channels.items.iter().any(|c| channel == &c.name && c.loose)
-}
-
-// The values of the expressions.
-fn values(
-    alloc: Global,
-    exprs: &Exprs,
-    process: &Pid,
-    store: &Store,
-    sizes: &Sizes,
-) -> Result<Payload, NoMemory>
-    ensures { IfOk result (λ m. m ≡ map (value_of (size_in sizes.now) (value_in store.now process.now)) exprs.now) }
-{
-    let mut items = Vec::new(alloc);
-    for e in &exprs.items {
-        items.push(eval(e, *process, store, sizes))?;
-    }
-    Ok(Payload { items })
 }
 
 // The body in the place of the first statement.
@@ -196,7 +169,7 @@ pub fn plain(
             };
             Ok(Some(Act {
                 next: Next::Rest,
-                change: Change::Sends(key, values(alloc, es, process, store, sizes)?),
+                change: Change::Sends(key, eval_all(alloc, es, process, store, sizes)?),
             }))
         }
         Stmt::If(e, a, None) => {
@@ -223,15 +196,5 @@ pub fn plain(
         Stmt::For(l) => Ok(Some(goes(next_member(alloc, code, l, sizes)?))),
         Stmt::Repeat(l) => Ok(Some(goes(next_turn(alloc, code, l, sizes)?))),
         Stmt::Recv(_, _, _) | Stmt::RecvAny(_) => Ok(None),
-    }
-}
-
-// Whether a value is true.
-fn is_true(value: Value) -> bool
-    ensures { result ≡ is_true_value value }
-{
-    match value {
-        Value::Bool(b) => b,
-        _ => false,
     }
 }

@@ -1,3 +1,4 @@
+//! Events: what a process does next.
 use brisk_values::Pid;
 
 /// One statement step of a process. A sender is given exactly where its head is a receive from any, and a place exactly

@@ -1,3 +1,4 @@
+//! Why an event isn't taken.
 use brisk_values::NoMemory;
 use thiserror::Error;
 

@@ -1,5 +1,5 @@
 //! The machine: the state of an instance, which events change.
-ghost use Rattle.std.specs.Prelude.{◌≡◌, ℕ, ◌≤◌, Option as Opt, IfOk, IfErr, IfSome, is_none, is_some, OnOk, OnErr, IsSome, IsTrue, Some, None, ◌⊎◌, ◌↔◌, option_and_then};
+ghost use Rattle.std.specs.Prelude.{◌≡◌, ℕ, Option as Opt, IfOk, IfErr, IfSome, is_none, is_some, OnOk, OnErr, IsSome, IsTrue, Some, None, ◌⊎◌, ◌↔◌, option_and_then};
 ghost use Rattle.std.specs.Option.{option_copied};
 ghost use Rattle.std.specs.FinMap as map;
 ghost use Rattle.brisk_values.specs.declared.value.Value.{Value as Val};
@@ -7,12 +7,11 @@ ghost use Rattle.brisk_values.specs.Names.{Name as Bytes};
 ghost use Rattle.brisk_syntax.specs.Declarations.{is_loose as is_loose_in};
 ghost use Rattle.brisk_syntax.specs.Segments.{head_of};
 ghost use Rattle.brisk_syntax.specs.Statements.{statement_of};
-ghost use Rattle.brisk_syntax.specs.Tokens.{weight};
 ghost use Rattle.brisk_syntax.specs.Syntax.{Code as Tree, ◌⨾◌};
 ghost use Rattle.brisk_async.specs.Acts.{effect_if, effect_of};
 ghost use Rattle.brisk_async.specs.Effects.{looks, next_of};
 ghost use Rattle.brisk_async.specs.InOrder.{AreQueues};
-ghost use Rattle.brisk_instance.specs.Causes.{IsCause};
+ghost use Rattle.brisk_instance.specs.Starting.{IsCause, IsReady};
 ghost use Rattle.brisk_instance.specs.Given.{FitsAsGiven, instance_of};
 ghost use Rattle.brisk_async.specs.Keys.{code_in_map, mail_in, queue_of};
 ghost use Rattle.brisk_async.specs.Machine.{IsDeadlocked, IsHalted, IsTerminal, after, effect, effect_in, payload_at, receives, seen_by, start, step};
@@ -24,15 +23,15 @@ ghost use Rattle.brisk_syntax.specs.WellTyped.{IsProgramWellTyped};
 use crate::changes::make_change;
 use crate::codes::{Codes, Next};
 use crate::copies::{copy_program, copy_sizes};
-use crate::effect::{Act, Change, is_loose, is_member, partner, plain, replaced};
+use crate::effect::{Act, Change, is_member, partner, plain, replaced};
 use crate::event::Event;
 use crate::fault::StepFault;
-use crate::mail::{Key, Mail, Payload};
+use crate::mail::{Key, Mail};
 use crate::queue::{Queue, told};
 use crate::start::start_codes;
 use brisk_instance::{StartFault, judge, start_store};
 use brisk_syntax::{Code, Names, Program, Stmt, Who, copy_names, subst};
-use brisk_values::{Instance, NoMemory, Pid, Sizes, Store};
+use brisk_values::{Instance, NoMemory, Pid, Sizes, Store, Values};
 use std::alloc::Global;
 use std::marker::Model;
 use std::rc::Rc;
@@ -68,7 +67,7 @@ impl Machine {
         instance: &Instance,
     ) -> Result<Machine, StartFault>
         requires { IsProgramWellTyped program.now }
-        ensures fits { IfOk result (λ _. FitsAsGiven program.now.enums program.now.roles instance.now × (weight program.now.roles (instance_of instance.now) ≤ 2000000)) }
+        ensures fits { IfOk result (λ _. IsReady program.now.enums program.now.roles instance.now) }
         ensures start { IfOk result (λ m. state_of m ≡ start program.now (instance_of instance.now)) }
         ensures err { IfErr result (IsCause program.now.enums program.now.roles instance.now) }
     {
@@ -156,7 +155,7 @@ impl Machine {
     ) -> Result<Option<Act>, NoMemory>
         ensures { IfOk result (λ a. (c : Tree) (sizes : Bytes → ℕ) (own : Bytes → Opt Val) → effect_if c a ≡ receives (looks sizes (is_loose_in self.now.program.channels) own (λ q. payload_at (mail_in self.now.mail q))) (queue_of key.now) vars.now (next_of next c) place) }
     {
-        let loose = is_loose(&self.program.channels, &key.channel);
+        let loose = self.program.channels.is_loose(&key.channel);
         let place = match place {
             None => {
                 if loose {
@@ -174,7 +173,7 @@ impl Machine {
         match self.mail.payload(key, place) {
             None => Ok(None),
             Some(payload) => {
-                let payload = Payload {
+                let payload = Values {
                     items: Vec::from_slice(self.alloc, &payload.items)?,
                 };
                 let vars = copy_names(self.alloc, vars)?;
@@ -242,7 +241,7 @@ impl Machine {
     fn at_queue(&self, key: &Key, place: Option<u32>) -> Option<StepFault>
         ensures { result ≡ queue_refusal (is_loose_in self.now.program.channels key.now.channel) (payload_at (mail_in self.now.mail (queue_of key.now))) place }
     {
-        let loose = is_loose(&self.program.channels, &key.channel);
+        let loose = self.program.channels.is_loose(&key.channel);
         match place {
             None => {
                 if loose {

@@ -1,5 +1,5 @@
 //! Mail: for each sender, receiver and channel the payloads that wait, the oldest first.
-ghost use Rattle.std.specs.Prelude.{◌≡◌, ◌∷◌, [], ◌++◌, OnOk, OnErr, IsSome, IsTrue, ◌↔◌, option_map, IfOk, length};
+ghost use Rattle.std.specs.Prelude.{◌≡◌, ◌∷◌, [], ◌++◌, OnOk, OnErr, IsTrue, ◌↔◌, IfOk, length};
 ghost use Rattle.std.specs.Option.{option_copied};
 ghost use Rattle.brisk_values.specs.Functions.{changed};
 ghost use Rattle.brisk_async.specs.Machine.{same_queue, payload_at, without};
@@ -8,29 +8,10 @@ ghost use Rattle.brisk_async.specs.Ranks.{AreNumbers};
 
 use crate::queue::{Rank, rank_in};
 use brisk_syntax::Program;
-use brisk_values::{Name, NoMemory, Pid, Value};
+use brisk_values::{Name, NoMemory, Pid, Values};
 use std::alloc::Global;
 use std::collections::{BTreeMap, VecDeque};
 use std::marker::Model;
-
-/// What one message carries.
-#[derive(Drop)]
-pub struct Payload {
-    pub items: Vec<Value>,
-}
-
-impl Model for Payload {
-    ghost use Rattle.std.specs.Prelude.{List};
-    ghost use Rattle.std.specs.Coded.{coded_list};
-    ghost use Rattle.brisk_values.specs.Places.{coded_value};
-    ghost use Rattle.brisk_values.specs.declared.value.Value.{Value as Val};
-
-    ghost Value = { List Val };
-
-    ghost coded = { coded_list coded_value };
-
-    ghost view = { λ a. a.items.items };
-}
 
 /// The sender, the receiver and the channel of a queue.
 #[derive(Clone, Copy, Debug, PartialEq, Eq, PartialOrd, Ord)]
@@ -43,7 +24,7 @@ pub struct Key {
 // The payloads of one queue, the oldest first.
 #[derive(Drop)]
 struct Waiting {
-    payloads: VecDeque<Payload>,
+    payloads: VecDeque<Values>,
 }
 
 impl Model for Waiting {
@@ -66,7 +47,7 @@ impl Waiting {
         self.payloads.len() as u64
     }
 
-    fn payload(&self, place: u32) -> Option<&Payload>
+    fn payload(&self, place: u32) -> Option<&Values>
         ensures { option_copied result ≡ payload_at self.now place }
     {
         let place = place as usize;
@@ -77,7 +58,7 @@ impl Waiting {
         }
     }
 
-    fn push(&mut self, payload: Payload) -> Result<(), NoMemory>
+    fn push(&mut self, payload: Values) -> Result<(), NoMemory>
         ensures ok { OnOk result (self.new ≡ self.old ++ payload ∷ []) }
         ensures err { OnErr result (self.new ≡ self.old) }
     {
@@ -127,7 +108,7 @@ impl Mail {
     }
 
     /// The payload at a place of a queue, counted from 0 at the oldest.
-    pub fn payload(&self, key: &Key, place: u32) -> Option<&Payload>
+    pub fn payload(&self, key: &Key, place: u32) -> Option<&Values>
         ensures { option_copied result ≡ payload_at (mail_in self.now (queue_of key.now)) place }
     {
         match self.queues.get(key) {
@@ -144,7 +125,7 @@ impl Mail {
     }
 
     /// Puts the payload at the end of the queue.
-    pub fn push(&mut self, key: &Key, payload: Payload) -> Result<(), NoMemory>
+    pub fn push(&mut self, key: &Key, payload: Values) -> Result<(), NoMemory>
         ensures ok { OnOk result (mail_in self.new ≡ changed same_queue (mail_in self.old) (queue_of key.now) (mail_in self.old (queue_of key.now) ++ payload ∷ [])) }
         ensures err { OnErr result (self.new ≡ self.old) }
     {
@@ -185,11 +166,12 @@ impl Mail {
 #[cfg(test)]
 mod tests {
     use super::*;
+    use brisk_values::Value;
     use std::test::Fail;
 
     fn process() -> Pid {
         Pid {
-            role: Name::new(b"A").unwrap(),
+            role: Name::of(b"A"),
             member: 0,
         }
     }
@@ -198,7 +180,7 @@ mod tests {
         Key {
             from: process(),
             to: process(),
-            channel: Name::new(b"T").unwrap(),
+            channel: Name::of(b"T"),
         }
     }
 
@@ -211,7 +193,7 @@ mod tests {
         let mut mail = Mail::new(rt.alloc());
         for n in 0..4 {
             let items = vec![in rt.alloc(); Value::Int(n)]?;
-            mail.push(&key(), Payload { items })?;
+            mail.push(&key(), Values { items })?;
         }
         mail.take(&key(), 2);
         mail.take(&key(), 0);

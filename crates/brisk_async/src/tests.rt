@@ -1,5 +1,5 @@
 //! A machine on a small program.
-ghost use Rattle.std.specs.Prelude.{◌≡◌, ◌<◌, ◌≤◌, length, IfOk, [], ◌∷◌};
+ghost use Rattle.std.specs.Prelude.{◌≡◌, length, IfOk};
 ghost use Rattle.brisk_syntax.specs.Statements.{statement_of};
 ghost use Rattle.brisk_syntax.specs.Texts.{text_of};
 ghost use Rattle.brisk_async.specs.Sample.{sample, sender as sender_text, wait as wait_statement, waiter as waiter_text};
@@ -14,14 +14,6 @@ use std::alloc::Global;
 use std::rc::Rc;
 use std::test::Fail;
 
-fn named(bytes: &[u8]) -> Name
-    requires some { 0 < length bytes.now }
-    requires few { length bytes.now ≤ 64 }
-    ensures { result ≡ bytes.now }
-{
-    Name::new(bytes).unwrap()
-}
-
 // `one A { send T(7) to B; }`, and the same under another name.
 fn sender(alloc: Global, name: Name) -> Result<Role, Fail>
     ensures { IfOk result (λ r. text_of r ≡ sender_text name) }
@@ -30,7 +22,7 @@ fn sender(alloc: Global, name: Name) -> Result<Role, Fail>
         items: vec![in alloc; Expr::Num(7)]?,
     };
     let code = Block {
-        items: vec![in alloc; Stmt::Send(named(b"T"), exprs, Who::Name(named(b"B")))]?,
+        items: vec![in alloc; Stmt::Send(Name::of(b"T"), exprs, Who::Name(Name::of(b"B")))]?,
     };
     Ok(Role {
         name,
@@ -48,9 +40,9 @@ fn wait(alloc: Global) -> Result<Stmt, Fail>
     ensures { IfOk result (λ s. statement_of s ≡ wait_statement) }
 {
     let vars = Names {
-        items: vec![in alloc; named(b"x")]?,
+        items: vec![in alloc; Name::of(b"x")]?,
     };
-    Ok(Stmt::Recv(named(b"T"), vars, Who::Name(named(b"A"))))
+    Ok(Stmt::Recv(Name::of(b"T"), vars, Who::Name(Name::of(b"A"))))
 }
 
 // `one B { var x : int = 0; recv T(x) from A; recv T(x) from A; }`
@@ -63,11 +55,11 @@ fn waiter(alloc: Global) -> Result<Role, Fail>
         items: vec![in alloc; first, second]?,
     };
     Ok(Role {
-        name: named(b"B"),
+        name: Name::of(b"B"),
         many: false,
         nonempty: false,
         decls: Decls {
-            items: vec![in alloc; Decl::Var(named(b"x"), Kind::Int, Const::Num(false, 0))]?,
+            items: vec![in alloc; Decl::Var(Name::of(b"x"), Kind::Int, Const::Num(false, 0))]?,
         },
         code: Rc::new(alloc, code)?,
     })
@@ -80,12 +72,12 @@ fn program(alloc: Global) -> Result<Program, Fail>
         items: vec![in alloc; Kind::Int]?,
     };
     let channel = Channel {
-        name: named(b"T"),
+        name: Name::of(b"T"),
         kinds,
         loose: false,
     };
-    let first = sender(alloc, named(b"C"))?;
-    let second = sender(alloc, named(b"A"))?;
+    let first = sender(alloc, Name::of(b"C"))?;
+    let second = sender(alloc, Name::of(b"A"))?;
     let third = waiter(alloc)?;
     Ok(Program {
         enums: Enums {
@@ -129,10 +121,10 @@ fn event(role: Name) -> Event {
 #[test]
 fn a_machine_runs_to_its_deadlock(rt: HostRuntime) -> Result<(), Fail> {
     let mut machine = begun(rt.alloc())?;
-    let a = event(named(b"A"));
-    let b = event(named(b"B"));
-    assert!(rt; machine.code(process(named(b"D"))).is_none());
-    machine.step(&event(named(b"C")))?;
+    let a = event(Name::of(b"A"));
+    let b = event(Name::of(b"B"));
+    assert!(rt; machine.code(process(Name::of(b"D"))).is_none());
+    machine.step(&event(Name::of(b"C")))?;
     assert!(rt; machine.enabled(&a));
     assert_eq!(rt; machine.step(&b), Err(StepFault::Blocked));
     assert!(rt; !machine.is_deadlocked());
@@ -141,7 +133,7 @@ fn a_machine_runs_to_its_deadlock(rt: HostRuntime) -> Result<(), Fail> {
     machine.step(&b)?;
     assert!(rt; machine.is_deadlocked());
     assert!(rt; !machine.is_halted());
-    let x = machine.store().get(process(named(b"B")), named(b"x"));
+    let x = machine.store().get(process(Name::of(b"B")), Name::of(b"x"));
     assert_eq!(rt; x, Some(Value::Int(7)));
     Ok(())
 }
@@ -150,8 +142,8 @@ fn a_machine_runs_to_its_deadlock(rt: HostRuntime) -> Result<(), Fail> {
 fn waits(from: Name) -> Queue {
     Queue {
         from: process(from),
-        to: process(named(b"B")),
-        channel: named(b"T"),
+        to: process(Name::of(b"B")),
+        channel: Name::of(b"T"),
         length: 1,
     }
 }
@@ -159,14 +151,14 @@ fn waits(from: Name) -> Queue {
 #[test]
 fn queues_are_told_as_declared(rt: HostRuntime) -> Result<(), Fail> {
     let mut machine = begun(rt.alloc())?;
-    machine.step(&event(named(b"A")))?;
-    machine.step(&event(named(b"C")))?;
+    machine.step(&event(Name::of(b"A")))?;
+    machine.step(&event(Name::of(b"C")))?;
     let both = machine.queues()?;
-    let told = [waits(named(b"C")), waits(named(b"A"))];
+    let told = [waits(Name::of(b"C")), waits(Name::of(b"A"))];
     assert_eq!(rt; both.as_slice(), told.as_slice());
-    machine.step(&event(named(b"B")))?;
+    machine.step(&event(Name::of(b"B")))?;
     let left = machine.queues()?;
-    let told = [waits(named(b"C"))];
+    let told = [waits(Name::of(b"C"))];
     assert_eq!(rt; left.as_slice(), told.as_slice());
     Ok(())
 }

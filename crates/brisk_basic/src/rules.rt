@@ -3,7 +3,6 @@ ghost use Rattle.std.specs.Prelude.{◌≡◌, ◌∷◌, [], IfErr, IfOk, IsSom
 ghost use Rattle.brisk_syntax.specs.Expressions.{expression_of};
 ghost use Rattle.brisk_basic.specs.Basic.{apply as applied};
 ghost use Rattle.brisk_syntax.specs.Segments.{head_of};
-ghost use Rattle.brisk_syntax.specs.Stores.{is_true as truth_of};
 ghost use Rattle.brisk_seq.specs.Items as item;
 ghost use Rattle.brisk_seq.specs.Seen.{item_of};
 ghost use Rattle.brisk_basic.specs.Steps.{Fails, Gives, decided_by, guard_of};
@@ -14,8 +13,10 @@ use crate::rule::{Basic, RuleFault};
 use crate::values::{forget, passed, put_value};
 use brisk_seq::{Fill, Pass, Seq, Take};
 use brisk_state::{Pending, State};
-use brisk_syntax::{Code, Expr, Exprs, Names, Stmt, copy_code, copy_expr, copy_exprs, copy_names};
-use brisk_values::{Name, NoMemory, Value};
+use brisk_syntax::{
+    Code, Expr, Exprs, Names, Stmt, copy_code, copy_expr, copy_exprs, copy_names, is_true,
+};
+use brisk_values::{Name, NoMemory};
 use std::alloc::Global;
 
 // The greatest number of a box.
@@ -174,7 +175,7 @@ fn known(alloc: Global, state: &mut State, t: Name) -> Result<Option<Seq>, RuleF
     let Some(value) = state.facts().fold(t, e) else {
         return Err(RuleFault::NotKnown);
     };
-    let next = decided(alloc, code, is_true(&value))?;
+    let next = decided(alloc, code, is_true(value))?;
     put_code(state, t, next);
     Ok(None)
 }
@@ -195,15 +196,6 @@ fn decided(alloc: Global, code: &Code, truth: bool) -> Result<Code, NoMemory>
         _ => next.skip(),
     }
     Ok(next)
-}
-
-fn is_true(value: &Value) -> bool
-    ensures { result ≡ truth_of value.now }
-{
-    match value {
-        Value::Bool(truth) => *truth,
-        _ => false,
-    }
 }
 
 fn passes(to: Name, vars: Names, from: Name, exprs: Exprs) -> Seq

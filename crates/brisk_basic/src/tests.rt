@@ -1,5 +1,5 @@
 //! Each basic rule on a small program.
-ghost use Rattle.std.specs.Prelude.{◌≡◌, ◌<◌, ◌≤◌, length, IfOk};
+ghost use Rattle.std.specs.Prelude.{◌≡◌, IfOk};
 ghost use Rattle.brisk_syntax.specs.Texts.{text_of};
 ghost use Rattle.brisk_state.specs.Sample.{sample, set as set_text, single as single_text};
 
@@ -15,25 +15,17 @@ use std::alloc::Global;
 use std::rc::Rc;
 use std::test::Fail;
 
-fn named(bytes: &[u8]) -> Name
-    requires some { 0 < length bytes.now }
-    requires few { length bytes.now ≤ 64 }
-    ensures { result ≡ bytes.now }
-{
-    Name::new(bytes).unwrap()
-}
-
 // `one A { var x : int = 7; input y : int; }`
 fn single(alloc: Global) -> Result<Role, Fail>
     ensures { IfOk result (λ r. text_of r ≡ single_text) }
 {
-    let x = Decl::Var(named(b"x"), Kind::Int, Const::Num(false, 7));
-    let y = Decl::Input(named(b"y"), Kind::Int);
+    let x = Decl::Var(Name::of(b"x"), Kind::Int, Const::Num(false, 7));
+    let y = Decl::Input(Name::of(b"y"), Kind::Int);
     let code = Block {
         items: Vec::new(alloc),
     };
     Ok(Role {
-        name: named(b"A"),
+        name: Name::of(b"A"),
         many: false,
         nonempty: false,
         decls: Decls {
@@ -51,7 +43,7 @@ fn set(alloc: Global) -> Result<Role, Fail>
         items: Vec::new(alloc),
     };
     Ok(Role {
-        name: named(b"Ws"),
+        name: Name::of(b"Ws"),
         many: true,
         nonempty: false,
         decls: Decls {
@@ -83,11 +75,11 @@ fn program(alloc: Global) -> Result<Program, Fail>
 fn begun(alloc: Global, single: Vec<Stmt>, set: Vec<Stmt>) -> Result<State, Fail> {
     let program = program(alloc)?;
     let mut state = State::initial(alloc, &program)?;
-    state.focus(named(b"Ws"))?;
-    if let Some(code) = state.code_mut(named(b"A")) {
+    state.focus(Name::of(b"Ws"))?;
+    if let Some(code) = state.code_mut(Name::of(b"A")) {
         *code = Code::of(alloc, single)?;
     }
-    if let Some(code) = state.code_mut(named(b"Ws")) {
+    if let Some(code) = state.code_mut(Name::of(b"Ws")) {
         *code = Code::of(alloc, set)?;
     }
     Ok(state)
@@ -96,17 +88,17 @@ fn begun(alloc: Global, single: Vec<Stmt>, set: Vec<Stmt>) -> Result<State, Fail
 // `send T(x) to` the set's member in focus
 fn send(alloc: Global) -> Result<Stmt, NoMemory> {
     let exprs = Exprs {
-        items: vec![in alloc; Expr::Var(named(b"x"))]?,
+        items: vec![in alloc; Expr::Var(Name::of(b"x"))]?,
     };
-    Ok(Stmt::Send(named(b"T"), exprs, Who::At(named(b"Ws"))))
+    Ok(Stmt::Send(Name::of(b"T"), exprs, Who::At(Name::of(b"Ws"))))
 }
 
 // `recv T(v) from A;`
 fn receive(alloc: Global) -> Result<Stmt, NoMemory> {
     let vars = Names {
-        items: vec![in alloc; named(b"v")]?,
+        items: vec![in alloc; Name::of(b"v")]?,
     };
-    Ok(Stmt::Recv(named(b"T"), vars, Who::Name(named(b"A"))))
+    Ok(Stmt::Recv(Name::of(b"T"), vars, Who::Name(Name::of(b"A"))))
 }
 
 // `variable := n;`
@@ -122,7 +114,7 @@ fn body(alloc: Global, variable: Name, n: u64) -> Result<Rc<Block>, NoMemory> {
 
 // `x == n`
 fn equal(alloc: Global, n: u64) -> Result<Expr, NoMemory> {
-    let x = Box::new(alloc, Expr::Var(named(b"x")))?;
+    let x = Box::new(alloc, Expr::Var(Name::of(b"x")))?;
     Ok(Expr::Bin(Op2::Eq, x, Box::new(alloc, Expr::Num(n))?))
 }
 
@@ -155,16 +147,16 @@ fn mailing(alloc: Global) -> Result<State, Fail> {
 
 // `if x == 7 { x := 8; } else { y := 2; } while x == 8 { y := 3; }`
 fn deciding(alloc: Global) -> Result<State, Fail> {
-    let other = Some(body(alloc, named(b"y"), 2)?);
-    let fork = Stmt::If(equal(alloc, 7)?, body(alloc, named(b"x"), 8)?, other);
-    let turns = Stmt::While(equal(alloc, 8)?, body(alloc, named(b"y"), 3)?);
+    let other = Some(body(alloc, Name::of(b"y"), 2)?);
+    let fork = Stmt::If(equal(alloc, 7)?, body(alloc, Name::of(b"x"), 8)?, other);
+    let turns = Stmt::While(equal(alloc, 8)?, body(alloc, Name::of(b"y"), 3)?);
     let single = vec![in alloc; fork, turns]?;
     begun(alloc, single, Vec::new(alloc))
 }
 
 // Whether the rule passes `x` of `A` to `v` of the set.
 fn passes(alloc: Global, state: &mut State) -> Result<bool, RuleFault> {
-    let pass = Basic::Pass(named(b"A"), named(b"Ws"), named(b"T"));
+    let pass = Basic::Pass(Name::of(b"A"), Name::of(b"Ws"), Name::of(b"T"));
     let statement = apply(alloc, state, &pass)?;
     let Some(Seq::Pass(p)) = &statement else {
         return Ok(false);
@@ -172,8 +164,8 @@ fn passes(alloc: Global, state: &mut State) -> Result<bool, RuleFault> {
     let (Some(v), Some(e)) = (p.vars.items.first(), p.exprs.items.first()) else {
         return Ok(false);
     };
-    let named_so = p.to == named(b"Ws") && p.from == named(b"A") && *v == named(b"v");
-    Ok(named_so && same_expr(e, &Expr::Var(named(b"x"))))
+    let named_so = p.to == Name::of(b"Ws") && p.from == Name::of(b"A") && *v == Name::of(b"v");
+    Ok(named_so && same_expr(e, &Expr::Var(Name::of(b"x"))))
 }
 
 // The box of the statement that the rule gives.
@@ -201,18 +193,18 @@ fn a_message_is_passed(rt: HostRuntime) -> Result<(), Fail> {
     let alloc = rt.alloc();
     let mut state = mailing(alloc)?;
     assert!(rt; passes(alloc, &mut state)?);
-    let known = state.facts().get(named(b"Ws"), named(b"v"));
+    let known = state.facts().get(Name::of(b"Ws"), Name::of(b"v"));
     assert_eq!(rt; known, Some(Value::Int(7)));
     assert!(rt; passes(alloc, &mut state)?);
-    assert!(rt; is_done(&state, named(b"A")));
-    assert!(rt; is_done(&state, named(b"Ws")));
+    assert!(rt; is_done(&state, Name::of(b"A")));
+    assert!(rt; is_done(&state, Name::of(b"Ws")));
     Ok(())
 }
 
 #[test]
 fn a_box_is_filled_and_emptied(rt: HostRuntime) -> Result<(), Fail> {
     let alloc = rt.alloc();
-    let (a, ws, t) = (named(b"A"), named(b"Ws"), named(b"T"));
+    let (a, ws, t) = (Name::of(b"A"), Name::of(b"Ws"), Name::of(b"T"));
     let fill = Basic::Fill(a, ws, t, 3);
     let take = Basic::Take(a, ws, t);
     let mut state = mailing(alloc)?;
@@ -231,7 +223,7 @@ fn a_box_is_filled_and_emptied(rt: HostRuntime) -> Result<(), Fail> {
 #[test]
 fn a_known_guard_decides(rt: HostRuntime) -> Result<(), Fail> {
     let alloc = rt.alloc();
-    let (a, x, y) = (named(b"A"), named(b"x"), named(b"y"));
+    let (a, x, y) = (Name::of(b"A"), Name::of(b"x"), Name::of(b"y"));
     let known = Basic::Known(a);
     let assign = Basic::Assign(a);
     let mut state = deciding(alloc)?;

@@ -3,6 +3,7 @@ use Rattle.std.proofs.Common.{◌≡◌, ℕ, ◌≤◌, List, Result, Ok, refl,
 use Rattle.brisk_values.specs.declared.instance.Instance.{Instance as Given}
 use Rattle.brisk_values.specs.Names.{Name}
 use Rattle.brisk_instance.specs.Given.{FitsAsGiven, instance_of}
+use Rattle.brisk_instance.specs.Starting.{most_weight}
 use Rattle.brisk_schedule.specs.Printing.{order_text}
 use Rattle.brisk_seq.specs.Answers.{Causes}
 use Rattle.brisk_seq.specs.declared.fault.SeqFault.{SeqFault}
@@ -27,7 +28,7 @@ pub not_unfit : (Q : SeqProgram) (g : Given) (choices : List ℕ) (turns : ℕ) 
 not_unfit Q g choices turns f fits h is = subst (λ (f : SeqFault). Causes Q g choices turns f) is h fits
 
 -- one whose instance is light isn't refused as too heavy
-pub not_heavy : (Q : SeqProgram) (g : Given) (choices : List ℕ) (turns : ℕ) (f : SeqFault) → weight Q.roles (instance_of g) ≤ 2000000 → Causes Q g choices turns f → f ≡ fault.TooLarge → ⊥
+pub not_heavy : (Q : SeqProgram) (g : Given) (choices : List ℕ) (turns : ℕ) (f : SeqFault) → weight Q.roles (instance_of g) ≤ most_weight → Causes Q g choices turns f → f ≡ fault.TooLarge → ⊥
 not_heavy Q g choices turns f light h is = let heavy = subst (λ (f : SeqFault). Causes Q g choices turns f) is h in omega (arith, light, heavy.1)
 
 -- the fault of a program that could begin tells what stopped it

@@ -1,3 +1,4 @@
+//! The number of steps of a derivation.
 ghost use Rattle.std.specs.Prelude.{◌≡◌, ◌-◌, ◌^◌, min};
 ghost use Rattle.brisk_derivtext.specs.Counts.{steps_in, steps_among};
 ghost use Rattle.brisk_derivtext.specs.Seen.{step_of};

@@ -1,3 +1,4 @@
+//! The tests of compound rules, and why a text is no derivation.
 use brisk_values::{Name, NoMemory};
 use thiserror::Error;
 

@@ -1,3 +1,4 @@
+//! Derivations: steps by basic and by compound rules.
 use brisk_syntax::Names;
 use brisk_values::Name;
 use std::marker::Model;

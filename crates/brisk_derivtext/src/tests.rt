@@ -1,5 +1,5 @@
 //! Derivations counted, and a report.
-ghost use Rattle.std.specs.Prelude.{◌≡◌, ◌<◌, ◌≤◌, length, IfOk};
+ghost use Rattle.std.specs.Prelude.{◌≡◌, IfOk};
 ghost use Rattle.brisk_derivtext.specs.Reports.{Tried, StuckFirst, no_tries, ◌▹◌};
 ghost use Rattle.brisk_derivtext.specs.Seen.{step_of};
 
@@ -9,20 +9,13 @@ use brisk_values::Name;
 use std::alloc::Global;
 use std::test::Fail;
 
-fn named(bytes: &[u8]) -> Name
-    requires some { 0 < length bytes.now }
-    requires few { length bytes.now ≤ 64 }
-{
-    Name::new(bytes).unwrap()
-}
-
 fn assign() -> Step {
-    Step::Basic(BasicStep::Assign(named(b"A")))
+    Step::Basic(BasicStep::Assign(Name::of(b"A")))
 }
 
 // `assign A`, and then a gather of A with `pass A W C` and `assign A`.
 fn side(alloc: Global) -> Result<Steps, Fail> {
-    let pass = BasicStep::Pass(named(b"A"), named(b"W"), named(b"C"));
+    let pass = BasicStep::Pass(Name::of(b"A"), Name::of(b"W"), Name::of(b"C"));
     let premise = Steps {
         items: vec![in alloc; Step::Basic(pass), assign()]?,
     };
@@ -30,7 +23,7 @@ fn side(alloc: Global) -> Result<Steps, Fail> {
         items: vec![in alloc]?,
     };
     Ok(Steps {
-        items: vec![in alloc; assign(), Step::Gather(named(b"A"), drops, premise)]?,
+        items: vec![in alloc; assign(), Step::Gather(Name::of(b"A"), drops, premise)]?,
     })
 }
 
@@ -43,7 +36,7 @@ fn the_steps_of_premises_are_counted(rt: HostRuntime) -> Result<(), Fail> {
         items: vec![in alloc; assign()]?,
     };
     let all = Steps {
-        items: vec![in alloc; Step::Branch(named(b"A"), first, second), assign()]?,
+        items: vec![in alloc; Step::Branch(Name::of(b"A"), first, second), assign()]?,
     };
     assert_eq!(rt; count_steps(&all), 7);
     Ok(())
@@ -52,7 +45,7 @@ fn the_steps_of_premises_are_counted(rt: HostRuntime) -> Result<(), Fail> {
 // `for Ws by M drop`, of which no step was taken.
 fn begun(alloc: Global) -> Result<Step, Fail> {
     let owners = Names {
-        items: vec![in alloc; named(b"M")]?,
+        items: vec![in alloc; Name::of(b"M")]?,
     };
     let drops = Drops {
         items: vec![in alloc]?,
@@ -60,7 +53,7 @@ fn begun(alloc: Global) -> Result<Step, Fail> {
     let premise = Steps {
         items: vec![in alloc]?,
     };
-    Ok(Step::For(named(b"Ws"), owners, drops, premise))
+    Ok(Step::For(Name::of(b"Ws"), owners, drops, premise))
 }
 
 // The rule alone was tried, and these tries after it.

@@ -1,25 +1,16 @@
 //! Facts added, removed, folded, learnt and compared.
-ghost use Rattle.std.specs.Prelude.{◌<◌, ◌≤◌, length};
-
 use crate::Facts;
 use brisk_syntax::Expr;
 use brisk_values::{Name, NoMemory, Op1, Op2, Value};
 use std::alloc::Global;
 use std::test::Fail;
 
-fn named(bytes: &[u8]) -> Name
-    requires some { 0 < length bytes.now }
-    requires few { length bytes.now ≤ 64 }
-{
-    Name::new(bytes).unwrap()
-}
-
 fn x() -> Expr {
-    Expr::Var(named(b"x"))
+    Expr::Var(Name::of(b"x"))
 }
 
 fn y() -> Expr {
-    Expr::Var(named(b"y"))
+    Expr::Var(Name::of(b"y"))
 }
 
 fn one(alloc: Global, op: Op1, e: Expr) -> Result<Expr, NoMemory> {
@@ -34,8 +25,8 @@ fn two(alloc: Global, e: Expr, op: Op2, f: Expr) -> Result<Expr, NoMemory> {
 // The values of `x` and `y` of `H`.
 fn known(facts: &Facts) -> (Option<Value>, Option<Value>) {
     (
-        facts.get(named(b"H"), named(b"x")),
-        facts.get(named(b"H"), named(b"y")),
+        facts.get(Name::of(b"H"), Name::of(b"x")),
+        facts.get(Name::of(b"H"), Name::of(b"y")),
     )
 }
 
@@ -46,25 +37,28 @@ fn told(
     truth: bool,
 ) -> Result<(Option<Value>, Option<Value>), NoMemory> {
     let mut facts = Facts::new(alloc);
-    facts.learn(named(b"H"), expr, truth)?;
+    facts.learn(Name::of(b"H"), expr, truth)?;
     Ok(known(&facts))
 }
 
 #[test]
 fn a_fact_is_added_replaced_and_removed(rt: HostRuntime) -> Result<(), Fail> {
     let mut facts = Facts::new(rt.alloc());
-    facts.add(named(b"H"), named(b"x"), Value::Int(1))?;
-    facts.add(named(b"Ws"), named(b"x"), Value::Int(2))?;
-    facts.add(named(b"H"), named(b"y"), Value::Int(3))?;
-    facts.add(named(b"H"), named(b"x"), Value::Bool(true))?;
+    facts.add(Name::of(b"H"), Name::of(b"x"), Value::Int(1))?;
+    facts.add(Name::of(b"Ws"), Name::of(b"x"), Value::Int(2))?;
+    facts.add(Name::of(b"H"), Name::of(b"y"), Value::Int(3))?;
+    facts.add(Name::of(b"H"), Name::of(b"x"), Value::Bool(true))?;
     assert_eq!(rt;
         known(&facts),
         (Some(Value::Bool(true)), Some(Value::Int(3)))
     );
     let copy = facts.copy()?;
-    facts.kill(named(b"H"), named(b"x"));
+    facts.kill(Name::of(b"H"), Name::of(b"x"));
     assert_eq!(rt; known(&facts), (None, Some(Value::Int(3))));
-    assert_eq!(rt; facts.get(named(b"Ws"), named(b"x")), Some(Value::Int(2)));
+    assert_eq!(rt;
+        facts.get(Name::of(b"Ws"), Name::of(b"x")),
+        Some(Value::Int(2))
+    );
     assert_eq!(rt;
         known(&copy),
         (Some(Value::Bool(true)), Some(Value::Int(3)))
@@ -76,33 +70,33 @@ fn a_fact_is_added_replaced_and_removed(rt: HostRuntime) -> Result<(), Fail> {
 fn an_expression_folds_where_all_is_known(rt: HostRuntime) -> Result<(), Fail> {
     let alloc = rt.alloc();
     let mut facts = Facts::new(alloc);
-    facts.add(named(b"H"), named(b"x"), Value::Int(2))?;
+    facts.add(Name::of(b"H"), Name::of(b"x"), Value::Int(2))?;
     let negative = one(alloc, Op1::Neg, Expr::Paren(Box::new(alloc, x())?))?;
     let sum = two(alloc, negative, Op2::Add, Expr::Num(7))?;
-    assert_eq!(rt; facts.fold(named(b"H"), &sum), Some(Value::Int(5)));
-    assert_eq!(rt; facts.fold(named(b"Ws"), &sum), None);
+    assert_eq!(rt; facts.fold(Name::of(b"H"), &sum), Some(Value::Int(5)));
+    assert_eq!(rt; facts.fold(Name::of(b"Ws"), &sum), None);
     let short = two(alloc, Expr::Bool(false), Op2::And, y())?;
-    assert_eq!(rt; facts.fold(named(b"H"), &short), None);
-    let product = two(alloc, Expr::Num(0), Op2::Mul, Expr::Size(named(b"Ws")))?;
-    assert_eq!(rt; facts.fold(named(b"H"), &product), None);
-    let red = Expr::Tag(named(b"Colour"), named(b"Red"));
-    let tag = Value::Tag(named(b"Colour"), named(b"Red"));
-    assert_eq!(rt; facts.fold(named(b"H"), &red), Some(tag));
+    assert_eq!(rt; facts.fold(Name::of(b"H"), &short), None);
+    let product = two(alloc, Expr::Num(0), Op2::Mul, Expr::Size(Name::of(b"Ws")))?;
+    assert_eq!(rt; facts.fold(Name::of(b"H"), &product), None);
+    let red = Expr::Tag(Name::of(b"Colour"), Name::of(b"Red"));
+    let tag = Value::Tag(Name::of(b"Colour"), Name::of(b"Red"));
+    assert_eq!(rt; facts.fold(Name::of(b"H"), &red), Some(tag));
     Ok(())
 }
 
 #[test]
 fn facts_with_one_value_are_common(rt: HostRuntime) -> Result<(), Fail> {
     let mut facts = Facts::new(rt.alloc());
-    facts.add(named(b"H"), named(b"x"), Value::Int(1))?;
-    facts.add(named(b"H"), named(b"y"), Value::Int(2))?;
-    facts.add(named(b"Ws"), named(b"x"), Value::Int(1))?;
+    facts.add(Name::of(b"H"), Name::of(b"x"), Value::Int(1))?;
+    facts.add(Name::of(b"H"), Name::of(b"y"), Value::Int(2))?;
+    facts.add(Name::of(b"Ws"), Name::of(b"x"), Value::Int(1))?;
     let mut other = Facts::new(rt.alloc());
-    other.add(named(b"H"), named(b"x"), Value::Int(1))?;
-    other.add(named(b"H"), named(b"y"), Value::Int(3))?;
+    other.add(Name::of(b"H"), Name::of(b"x"), Value::Int(1))?;
+    other.add(Name::of(b"H"), Name::of(b"y"), Value::Int(3))?;
     facts.keep_common(&other);
     assert_eq!(rt; known(&facts), (Some(Value::Int(1)), None));
-    assert_eq!(rt; facts.get(named(b"Ws"), named(b"x")), None);
+    assert_eq!(rt; facts.get(Name::of(b"Ws"), Name::of(b"x")), None);
     Ok(())
 }
 
@@ -138,10 +132,14 @@ fn equal_sides_tell_of_a_variable(rt: HostRuntime) -> Result<(), Fail> {
 fn a_learnt_fact_replaces_another(rt: HostRuntime) -> Result<(), Fail> {
     let alloc = rt.alloc();
     let mut facts = Facts::new(alloc);
-    facts.add(named(b"H"), named(b"x"), Value::Bool(true))?;
-    facts.add(named(b"H"), named(b"y"), Value::Int(1))?;
-    facts.learn(named(b"H"), &x(), false)?;
-    facts.learn(named(b"H"), &two(alloc, y(), Op2::Eq, Expr::Num(2))?, true)?;
+    facts.add(Name::of(b"H"), Name::of(b"x"), Value::Bool(true))?;
+    facts.add(Name::of(b"H"), Name::of(b"y"), Value::Int(1))?;
+    facts.learn(Name::of(b"H"), &x(), false)?;
+    facts.learn(
+        Name::of(b"H"),
+        &two(alloc, y(), Op2::Eq, Expr::Num(2))?,
+        true,
+    )?;
     assert_eq!(rt;
         known(&facts),
         (Some(Value::Bool(false)), Some(Value::Int(2)))

@@ -1,5 +1,5 @@
 pub mod Begun
-pub mod Causes
 pub mod Given
 pub mod Ordered
+pub mod Starting
 pub mod Walks

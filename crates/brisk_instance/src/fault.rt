@@ -1,3 +1,4 @@
+//! Why an instance isn't started.
 use brisk_values::NoMemory;
 use thiserror::Error;
 

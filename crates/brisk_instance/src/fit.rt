@@ -1,16 +1,13 @@
 //! Whether an instance fits: each set has a size, each input of each process a value of its kind, and nothing else is
 //! given.
-ghost use Rattle.std.specs.Prelude.{◌≡◌, ℕ, ◌≤◌, ◌<◌, ◌↔◌, IsTrue, IfOk, IfErr, [], ◌∷◌, map, option_map};
+ghost use Rattle.std.specs.Prelude.{◌≡◌, ℕ, ◌<◌, ◌↔◌, IsTrue, IfOk, IfErr, [], ◌∷◌, map, option_map};
 ghost use Rattle.std.specs.List.{AllByRecursion, list_any};
 ghost use Rattle.brisk_values.specs.Names.{member, same_name};
 ghost use Rattle.brisk_syntax.specs.Declarations.{is_tag as is_tag_of};
 ghost use Rattle.brisk_syntax.specs.Instance.{InputFits, IsOfKind, RoleFits, least};
 ghost use Rattle.brisk_syntax.specs.Texts.{text_of};
-ghost use Rattle.brisk_syntax.specs.Tokens.{weight as weight_of};
-ghost use Rattle.brisk_syntax.specs.Value.{size_in};
-ghost use Rattle.brisk_instance.specs.Begun.{members_of as number_of_members};
-ghost use Rattle.brisk_instance.specs.Causes.{IsCause};
-ghost use Rattle.brisk_instance.specs.Given.{FitsAsGiven, all_inputs, inputs_at, instance_of, instance_with, place_of, set_names};
+ghost use Rattle.brisk_instance.specs.Given.{all_inputs, inputs_at, instance_with, place_of, set_names};
+ghost use Rattle.brisk_instance.specs.Starting.{IsCause, IsReady};
 ghost use Rattle.brisk_instance.specs.Walks.{has_input as has_input_in, inputs_of, role_inputs, instance_from, instance_given, is_whole, rest_after, same_input, size_name};
 
 use crate::fault::StartFault;
@@ -221,7 +218,7 @@ pub fn judge(
     roles: &Roles,
     instance: &Instance,
 ) -> Result<(), StartFault>
-    ensures ok { IfOk result (λ _. FitsAsGiven enums.now roles.now instance.now × (weight_of roles.now (instance_of instance.now) ≤ 2000000)) }
+    ensures ok { IfOk result (λ _. IsReady enums.now roles.now instance.now) }
     ensures err { IfErr result (IsCause enums.now roles.now instance.now) }
 {
     if !are_sizes_given(roles, &instance.sizes) {

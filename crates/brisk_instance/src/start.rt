@@ -4,15 +4,14 @@ ghost use Rattle.std.specs.FinMap as map;
 ghost use Rattle.brisk_values.specs.declared.value.Pid.{Pid as Process};
 ghost use Rattle.brisk_values.specs.Names.{Name};
 ghost use Rattle.brisk_values.specs.Places.{value_in};
-ghost use Rattle.brisk_syntax.specs.Declarations.{constant_value as value_of_constant};
 ghost use Rattle.brisk_syntax.specs.Instance.{start_store as values_at_start};
 ghost use Rattle.brisk_syntax.specs.Texts.{text_of};
 ghost use Rattle.brisk_syntax.specs.Value.{size_in};
 ghost use Rattle.brisk_instance.specs.Begun.{declared_value as value_of_declared, members_of as number_of_members, with_values, with_members, with_roles};
 ghost use Rattle.brisk_instance.specs.Given.{AreApart, instance_of, with_inputs};
 
-use brisk_syntax::{Const, Decl, Decls, Role, Roles, size_of_set};
-use brisk_values::{Inputs, Instance, NoMemory, Pid, Sizes, Store, Value, wrap};
+use brisk_syntax::{Decl, Decls, Role, Roles, size_of_set};
+use brisk_values::{Inputs, Instance, NoMemory, Pid, Sizes, Store, Value};
 use std::alloc::Global;
 
 /// The number of a role's processes: 1 for a single role, and the size of a set.
@@ -23,18 +22,6 @@ pub fn members_of(role: &Role, sizes: &Sizes) -> u32
         size_of_set(sizes, &role.name)
     } else {
         1
-    }
-}
-
-// The value of a constant.
-fn constant_value(constant: &Const) -> Value
-    ensures { result ≡ value_of_constant constant.now }
-{
-    match constant {
-        Const::Num(true, n) => Value::Int(wrap(-i128::from(*n))),
-        Const::Num(false, n) => Value::Int(wrap(i128::from(*n))),
-        Const::Bool(b) => Value::Bool(*b),
-        Const::Tag(e, t) => Value::Tag(*e, *t),
     }
 }
 
@@ -54,7 +41,7 @@ pub(crate) fn declared_value(given: &Store, process: &Pid, decl: &Decl) -> Value
     ensures { result ≡ value_of_declared given.now process.now decl.now }
 {
     match decl {
-        Decl::Var(_, _, constant) => constant_value(constant),
+        Decl::Var(_, _, constant) => constant.value(),
         Decl::Input(x, _) => match given.get(*process, *x) {
             Some(v) => v,
             None => Value::Bool(false),
@@ -72,10 +59,11 @@ fn add_values(
     ensures { OnOk result (store.new ≡ with_values given.now process.now decls.now store.old) }
 {
     for decl in &decls.items {
-        let value = declared_value(given, process, decl);
-        match decl {
-            Decl::Var(x, _, _) | Decl::Input(x, _) => store.set(*process, *x, value)?,
-        }
+        store.set(
+            *process,
+            decl.variable(),
+            declared_value(given, process, decl),
+        )?;
     }
     Ok(())
 }

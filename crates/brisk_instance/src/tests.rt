@@ -1,5 +1,5 @@
 //! An instance that fits, and some that don't.
-ghost use Rattle.std.specs.Prelude.{◌<◌, ◌≤◌, ◌≡◌, length, IfOk};
+ghost use Rattle.std.specs.Prelude.{IfOk};
 ghost use Rattle.brisk_instance.specs.Given.{AreApart};
 
 use crate::{StartFault, judge, start_store, weight};
@@ -8,14 +8,6 @@ use brisk_values::{Input, Inputs, Instance, Kind, Name, Pid, Sizes, Value};
 use std::alloc::Global;
 use std::rc::Rc;
 use std::test::Fail;
-
-fn named(bytes: &[u8]) -> Name
-    requires some { 0 < length bytes.now }
-    requires few { length bytes.now ≤ 64 }
-    ensures { result ≡ bytes.now }
-{
-    Name::new(bytes).unwrap()
-}
 
 // `one NAME { input v : KIND; }`, or `many NAME nonempty ..`
 fn role(alloc: Global, name: Name, many: bool, kind: Kind) -> Result<Role, Fail> {
@@ -27,7 +19,7 @@ fn role(alloc: Global, name: Name, many: bool, kind: Kind) -> Result<Role, Fail>
         many,
         nonempty: many,
         decls: Decls {
-            items: vec![in alloc; Decl::Input(named(b"v"), kind)]?,
+            items: vec![in alloc; Decl::Input(Name::of(b"v"), kind)]?,
         },
         code: Rc::new(alloc, code)?,
     })
@@ -35,8 +27,8 @@ fn role(alloc: Global, name: Name, many: bool, kind: Kind) -> Result<Role, Fail>
 
 // `one A { input v : int; } many Ws nonempty { input v : bool; }`
 fn roles(alloc: Global) -> Result<Roles, Fail> {
-    let single = role(alloc, named(b"A"), false, Kind::Int)?;
-    let set = role(alloc, named(b"Ws"), true, Kind::Bool)?;
+    let single = role(alloc, Name::of(b"A"), false, Kind::Int)?;
+    let set = role(alloc, Name::of(b"Ws"), true, Kind::Bool)?;
     Ok(Roles {
         items: vec![in alloc; single, set]?,
     })
@@ -51,19 +43,19 @@ fn no_enums(alloc: Global) -> Enums {
 fn input(role: Name, member: u32, value: Value) -> Input {
     Input {
         process: Pid { role, member },
-        variable: named(b"v"),
+        variable: Name::of(b"v"),
         value,
     }
 }
 
 // Two members, of which the second has this value.
 fn instance(alloc: Global, last: Value) -> Result<Instance, Fail> {
-    let first = input(named(b"A"), 0, Value::Int(-3));
-    let second = input(named(b"Ws"), 0, Value::Bool(true));
-    let third = input(named(b"Ws"), 1, last);
+    let first = input(Name::of(b"A"), 0, Value::Int(-3));
+    let second = input(Name::of(b"Ws"), 0, Value::Bool(true));
+    let third = input(Name::of(b"Ws"), 1, last);
     Ok(Instance {
         sizes: Sizes {
-            items: vec![in alloc; (named(b"Ws"), 2)]?,
+            items: vec![in alloc; (Name::of(b"Ws"), 2)]?,
         },
         inputs: Inputs {
             items: vec![in alloc; first, second, third]?,
@@ -91,7 +83,7 @@ fn an_instance_fits_with_values_of_their_kinds(rt: HostRuntime) -> Result<(), Fa
 fn of_set(alloc: Global, size: Option<u32>) -> Result<Instance, Fail> {
     let mut sizes = Vec::new(alloc);
     if let Some(size) = size {
-        sizes.push((named(b"Ws"), size))?;
+        sizes.push((Name::of(b"Ws"), size))?;
     }
     Ok(Instance {
         sizes: Sizes { items: sizes },
@@ -109,11 +101,11 @@ fn set(alloc: Global) -> Result<Roles, Fail>
         items: Vec::new(alloc),
     };
     let set = Role {
-        name: named(b"Ws"),
+        name: Name::of(b"Ws"),
         many: true,
         nonempty: true,
         decls: Decls {
-            items: vec![in alloc; Decl::Var(named(b"x"), Kind::Int, Const::Num(true, 5))]?,
+            items: vec![in alloc; Decl::Var(Name::of(b"x"), Kind::Int, Const::Num(true, 5))]?,
         },
         code: Rc::new(alloc, code)?,
     };
@@ -153,10 +145,10 @@ fn each_member_starts_with_its_values(rt: HostRuntime) -> Result<(), Fail> {
     let roles = set(alloc)?;
     let store = start_store(alloc, &roles, &of_set(alloc, Some(2))?)?;
     let member = |member| Pid {
-        role: named(b"Ws"),
+        role: Name::of(b"Ws"),
         member,
     };
-    assert_eq!(rt; store.get(member(1), named(b"x")), Some(Value::Int(-5)));
-    assert_eq!(rt; store.get(member(2), named(b"x")), None);
+    assert_eq!(rt; store.get(member(1), Name::of(b"x")), Some(Value::Int(-5)));
+    assert_eq!(rt; store.get(member(2), Name::of(b"x")), None);
     Ok(())
 }

@@ -1,3 +1,4 @@
+//! Why a read or a write fails.
 use thiserror::Error;
 
 /// Why a read gave nothing.

@@ -1,4 +1,5 @@
-ghost use Rattle.std.specs.Prelude.{Some, ◌≡◌, ◌≤◌, ◌<◌, ◌-◌, ◌++◌, ◌||◌, ◌&&◌, nat_lt, nat_eq, [], min, length, take, drop, IfOk, IfSome, OnOk, OnErr, is_err, ◌↔◌, IsTrue};
+//! Folders and sinks in memory, whose calls fail as planned.
+ghost use Rattle.std.specs.Prelude.{Some, ◌≡◌, ◌≤◌, ◌<◌, ◌-◌, ◌||◌, ◌&&◌, nat_lt, nat_eq, [], min, length, take, drop, IfOk, is_err, ◌↔◌, IsTrue};
 ghost use Rattle.std.specs.Option.{option_copied};
 ghost use Rattle.brisk_io.specs.Causes.{ReadCause, ReadTold, WriteCause, WriteTold};
 ghost use Rattle.brisk_io.specs.Files.{content};
@@ -112,7 +113,7 @@ pub struct MemSink {
 }
 
 impl Model for MemSink {
-    ghost use Rattle.std.specs.Prelude.{◌≤◌, vec_len, vec_capacity};
+    ghost use Rattle.std.specs.Prelude.{◌≤◌, vec_capacity};
     ghost use Rattle.brisk_io.specs.Plans.{Taken};
 
     ghost Value = { Taken };

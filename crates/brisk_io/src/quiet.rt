@@ -1,5 +1,6 @@
-ghost use Rattle.std.specs.Prelude.{Some, None, ◌≡◌, ◌≢◌, ◌≤◌, length, IfOk};
-ghost use Rattle.brisk_io.specs.Causes.{ReadCause, ReadTold, WriteCause, WriteTold};
+//! Folders and sinks that never fail.
+ghost use Rattle.std.specs.Prelude.{Some, None, ◌≡◌, ◌≤◌, length};
+ghost use Rattle.brisk_io.specs.Causes.{WriteCause, WriteTold};
 ghost use Rattle.brisk_io.specs.Files.{content};
 
 use crate::faults::{FolderFault, SinkFault};

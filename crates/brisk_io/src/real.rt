@@ -1,3 +1,4 @@
+//! The file system, and standard output.
 ghost use Rattle.std.specs.Prelude.{None, ◌≡◌, ◌≤◌, IfOk, length};
 ghost use Rattle.brisk_io.specs.Plans.{Counts};
 

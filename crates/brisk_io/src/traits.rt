@@ -1,3 +1,4 @@
+//! What folders and sinks promise.
 ghost use Rattle.std.specs.Prelude.{◌≡◌, ◌≤◌, ℕ, List, Option, IfOk, IfSome, length};
 ghost use Rattle.brisk_io.specs.Causes.{Files, ReadCause, ReadTold, WriteCause, WriteTold};
 

@@ -1,8 +1,7 @@
 -- When bytes are a name of the language.
-use Rattle.std.proofs.Common.{◌≡◌, ◌<◌, ◌≤◌, ◌⊎◌, inl, inr, Bool, true, false, ℕ, List, [], ◌∷◌, length, IsUtf8, MatchOption, Option, Some, None, refl, sym, ap, subst, ◌∙◌, arith}
-use Rattle.std.specs.Str.{chars, encode_utf8_all}
+use Rattle.std.proofs.Common.{◌≡◌, ◌<◌, ◌≤◌, ◌⊎◌, inl, inr, true, false, ℕ, List, [], ◌∷◌, length, IsUtf8, MatchOption, Option, Some, None, sym, arith}
+use Rattle.std.specs.Str.{chars}
 use Rattle.std.proofs.lemmas.Str.{encodes-chars}
-use Rattle.brisk_lex.specs.declared.token.Word.{Word}
 use Rattle.brisk_lex.specs.Vocabulary.{word}
 use Rattle.brisk_lex.specs.Spelled.{is_identifier, IsName}
 

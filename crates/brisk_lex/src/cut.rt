@@ -3,7 +3,6 @@ ghost use Rattle.std.specs.Prelude.{true, ◌<◌, ◌≡◌, ◌∷◌, ◌++�
 ghost use Rattle.std.specs.Str.{chars};
 ghost use Rattle.std.specs.Char.{is_ascii_digit, encode_utf8};
 ghost use Rattle.std.specs.List.{prefix_len};
-ghost use Rattle.unicode_ident.specs.Ident.{is_xid_continue};
 ghost use Rattle.brisk_lex.specs.Tokens as spec;
 ghost use Rattle.brisk_lex.specs.Tokens.{number};
 ghost use Rattle.brisk_lex.specs.Seen.{Cuts};

@@ -1,3 +1,4 @@
+//! Why a text has no tokens.
 ghost use Rattle.std.specs.Prelude.{◌≡◌};
 ghost use Rattle.brisk_lex.specs.declared.fault.LexFault.TheVariants.{NoMemory};
 ghost use Rattle.brisk_lex.specs.Tokens as spec;

@@ -1,10 +1,11 @@
+//! Marks: tokens of one or two characters that are no letters.
 ghost use Rattle.std.specs.Prelude.{◌≡◌};
 ghost use Rattle.brisk_lex.specs.Vocabulary as spec;
 
 use crate::token::Mark;
 
-#[tactic(auto, unfolding(crate::specs::Vocabulary::double_mark))]
 /// The mark of these two characters.
+#[tactic(auto, unfolding(crate::specs::Vocabulary::double_mark))]
 pub fn double_mark(first: char, second: char) -> Option<Mark>
     ensures { result ≡ spec.double_mark first second }
 {
@@ -20,8 +21,8 @@ pub fn double_mark(first: char, second: char) -> Option<Mark>
     }
 }
 
-#[tactic(auto, unfolding(crate::specs::Vocabulary::single_mark))]
 /// The mark of this character alone.
+#[tactic(auto, unfolding(crate::specs::Vocabulary::single_mark))]
 pub fn single_mark(c: char) -> Option<Mark>
     ensures { result ≡ spec.single_mark c }
 {

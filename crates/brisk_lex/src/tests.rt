@@ -1,3 +1,4 @@
+//! Texts and their tokens, or the first fault.
 use crate::{LexFault, Mark, Placed, Token, Word, tokens};
 use brisk_values::Name;
 use std::alloc::Global;
@@ -175,11 +176,11 @@ fn numbers_have_leading_zeros_and_a_greatest(rt: HostRuntime) -> Result<(), Fail
 fn tokens_stand_between_spaces_and_comments(rt: HostRuntime) -> Result<(), Fail> {
     let text = b"// first\r\n\tx:===1a//\xCE\xA9\n  // last";
     let places = [
-        (Token::Name(Name::new(b"x").ok_or("no name")?), 11),
+        (Token::Name(Name::of(b"x")), 11),
         (Token::Mark(Mark::Assign), 12),
         (Token::Mark(Mark::EqEq), 14),
         (Token::Num(1), 16),
-        (Token::Name(Name::new(b"a").ok_or("no name")?), 17),
+        (Token::Name(Name::of(b"a")), 17),
     ];
     let found = tokens(rt.alloc(), text)?;
     assert_eq!(rt; found.len(), places.len());

@@ -1,3 +1,4 @@
+//! Tokens, and where they stand.
 use brisk_values::Name;
 
 /// A reserved word.
@@ -62,6 +63,7 @@ pub enum Mark {
     Bang,
 }
 
+/// A token. A number is below 2^63, or 2^63 itself.
 #[derive(Clone, Copy, Debug, PartialEq, Eq)]
 pub enum Token {
     Word(Word),

@@ -1,3 +1,4 @@
+//! Reserved words.
 ghost use Rattle.std.specs.Prelude.{◌≡◌, map};
 ghost use Rattle.brisk_lex.specs.Vocabulary as spec;
 

@@ -1,3 +1,4 @@
+//! The lines of schedules and of choices.
 use brisk_values::{Name, Value};
 
 /// A process as a line names it: a role, or a member of a set by its number.

@@ -5,19 +5,12 @@ use crate::{Line, Process, put_line, put_process, read_line};
 use brisk_values::{Name, Value};
 use std::test::Fail;
 
-fn named(bytes: &[u8]) -> Name
-    requires some { 0 < length bytes.now }
-    requires few { length bytes.now ≤ 64 }
-{
-    Name::new(bytes).unwrap()
-}
-
 fn single(role: &[u8]) -> Process
     requires some { 0 < length role.now }
     requires few { length role.now ≤ 64 }
 {
     Process {
-        role: named(role),
+        role: Name::of(role),
         member: None,
     }
 }
@@ -27,23 +20,23 @@ fn member(set: &[u8], number: u32) -> Process
     requires few { length set.now ≤ 64 }
 {
     Process {
-        role: named(set),
+        role: Name::of(set),
         member: Some(number),
     }
 }
 
 fn input(process: Process, value: Value) -> Line {
-    Line::Input(process, named(b"x"), value)
+    Line::Input(process, Name::of(b"x"), value)
 }
 
 #[test]
 fn each_form_is_read_and_written(rt: HostRuntime) -> Result<(), Fail> {
-    let yes = Value::Tag(named(b"Vote"), named(b"Yes"));
+    let yes = Value::Tag(Name::of(b"Vote"), Name::of(b"Yes"));
     let cases: [(&[u8], Line); 19] = [
         (b"brisk schedule 1", Line::Schedule),
         (b"brisk choices 1", Line::Choices),
-        (b"size Ws 0", Line::Size(named(b"Ws"), 0)),
-        (b"size Ws 1000000", Line::Size(named(b"Ws"), 1_000_000)),
+        (b"size Ws 0", Line::Size(Name::of(b"Ws"), 0)),
+        (b"size Ws 1000000", Line::Size(Name::of(b"Ws"), 1_000_000)),
         (b"input A.x = -5", input(single(b"A"), Value::Int(-5))),
         (
             b"input A.x = -9223372036854775808",
@@ -90,7 +83,7 @@ fn each_form_is_read_and_written(rt: HostRuntime) -> Result<(), Fail> {
 
 #[test]
 fn words_of_lines_are_names(rt: HostRuntime) {
-    let value = Value::Tag(named(b"at"), named(b"size"));
+    let value = Value::Tag(Name::of(b"at"), Name::of(b"size"));
     let cases: [(&[u8], Line); 3] = [
         (b"event at at 1", Line::Event(single(b"at"), None, Some(1))),
         (
@@ -99,7 +92,7 @@ fn words_of_lines_are_names(rt: HostRuntime) {
         ),
         (
             b"input size.at = at.size",
-            Line::Input(single(b"size"), named(b"at"), value),
+            Line::Input(single(b"size"), Name::of(b"at"), value),
         ),
     ];
     for (text, line) in cases {

@@ -1,3 +1,4 @@
+//! Examples: what the definitions give on small programs.
 ghost use Rattle.brisk_loops.specs.Derivations.{Derivations};
 ghost use Rattle.brisk_loops.specs.Examples.{Examples};
 

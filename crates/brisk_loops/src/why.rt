@@ -1,3 +1,4 @@
+//! Why a derivation isn't valid.
 use brisk_basic::RuleFault;
 use brisk_derivtext::SideFault;
 

@@ -1,3 +1,4 @@
+//! Why tokens are no program.
 ghost use Rattle.std.specs.Prelude.{◌≡◌};
 ghost use Rattle.brisk_parse.specs.Answers.{fault_at};
 ghost use Rattle.brisk_parse.specs.declared.fault.Stop.TheVariants.{NoMemory as OutOfMemory};

@@ -1,9 +1,9 @@
 //! Sequential programs: each construct, and the token at which a text that is nearly one is refused.
 use super::*;
-use crate::tests::name;
 use brisk_lex::tokens;
 use brisk_seq::{Fill, Seq, SeqProgram, Take};
 use brisk_syntax::{Expr, Exprs, Names, same_expr};
+use brisk_values::Name;
 use std::alloc::Global;
 use std::process::Abort;
 use std::test::Fail;
@@ -113,8 +113,8 @@ fn a_filled_box_is_its_tree(rt: HostRuntime) -> Result<(), Fail> {
     items.push(Expr::Num(3))?;
     let want = Fill {
         number: 7,
-        from: name(b"A")?,
-        to: name(b"B")?,
+        from: Name::of(b"A"),
+        to: Name::of(b"B"),
         exprs: Exprs { items },
     };
     match read.body.items.first() {
@@ -128,12 +128,12 @@ fn a_filled_box_is_its_tree(rt: HostRuntime) -> Result<(), Fail> {
 fn a_taken_box_is_its_tree(rt: HostRuntime) -> Result<(), Fail> {
     let read = parsed(&rt, rt.alloc(), b"begin B.(x):=box 7(A to B);end")?;
     let mut items = Vec::new(rt.alloc());
-    items.push(name(b"x")?)?;
+    items.push(Name::of(b"x"))?;
     let want = Take {
-        to: name(b"B")?,
+        to: Name::of(b"B"),
         vars: Names { items },
         number: 7,
-        from: name(b"A")?,
+        from: Name::of(b"A"),
     };
     match read.body.items.first() {
         Some(Seq::Take(take)) => assert!(rt; same_take(take, &want)),

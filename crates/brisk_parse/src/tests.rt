@@ -2,14 +2,10 @@
 use super::*;
 use brisk_lex::tokens;
 use brisk_syntax::{Expr, Program, Stmt, same_expr};
-use brisk_values::{Name, Op1, Op2};
+use brisk_values::{Op1, Op2};
 use std::alloc::Global;
 use std::process::Abort;
 use std::test::Fail;
-
-pub fn name(bytes: &[u8]) -> Result<Name, Fail> {
-    Ok(Name::new(bytes).ok_or("no name")?)
-}
 
 fn parsed(rt: &impl Abort, alloc: Global, source: &[u8]) -> Result<Program, Fail> {
     assert!(rt; source.len() <= 16_777_216);

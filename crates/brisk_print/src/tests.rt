@@ -1,3 +1,4 @@
+//! Small programs and their layouts.
 use crate::{print_head, print_program, print_value};
 use brisk_lex::tokens;
 use brisk_parse::program;
@@ -158,7 +159,7 @@ pub fn first_statement(program: &Program) -> Result<&Stmt, Fail> {
 
 #[test]
 fn partners_of_running_code(rt: HostRuntime) -> Result<(), Fail> {
-    let set = name(b"Ws")?;
+    let set = Name::of(b"Ws");
     let cases: [(Who, &[u8]); 3] = [
         (Who::Name(set), b"send C() to Ws;"),
         (Who::At(set), b"send C() to Ws;"),
@@ -172,7 +173,7 @@ fn partners_of_running_code(rt: HostRuntime) -> Result<(), Fail> {
     ];
     for (partner, head) in cases {
         let items = Vec::new(rt.alloc());
-        let statement = Stmt::Send(name(b"C")?, Exprs { items }, partner);
+        let statement = Stmt::Send(Name::of(b"C"), Exprs { items }, partner);
         assert_eq!(rt; print_head(rt.alloc(), &statement)?.as_slice(), head);
     }
     Ok(())
@@ -192,7 +193,7 @@ fn values(rt: HostRuntime) -> Result<(), Fail> {
         ),
         (Value::Bool(true), b"true"),
         (Value::Bool(false), b"false"),
-        (Value::Tag(name(b"Vote")?, name(b"No")?), b"Vote.No"),
+        (Value::Tag(Name::of(b"Vote"), Name::of(b"No")), b"Vote.No"),
     ];
     for (value, text) in cases {
         assert_eq!(rt; print_value(rt.alloc(), &value)?.as_slice(), text);

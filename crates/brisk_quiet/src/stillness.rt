@@ -1,3 +1,5 @@
+//! How the quiet test comes out.
+
 /// What a member's code does first, for a receiver and a channel.
 #[derive(Clone, Copy, Debug, PartialEq, Eq)]
 pub enum Stillness {

@@ -1,5 +1,5 @@
 //! The quiet test of a member of Ws, for the receiver H and the channel Up.
-ghost use Rattle.std.specs.Prelude.{◌≡◌, ◌<◌, ◌≤◌, length, IfOk};
+ghost use Rattle.std.specs.Prelude.{◌≡◌, IfOk};
 ghost use Rattle.brisk_syntax.specs.Texts.{text_of};
 ghost use Rattle.brisk_quiet.specs.Sample.{idle, sample};
 
@@ -13,14 +13,6 @@ use brisk_values::Name;
 use std::alloc::Global;
 use std::rc::Rc;
 use std::test::Fail;
-
-fn named(bytes: &[u8]) -> Name
-    requires some { 0 < length bytes.now }
-    requires few { length bytes.now ≤ 64 }
-    ensures { result ≡ bytes.now }
-{
-    Name::new(bytes).unwrap()
-}
 
 // `{ STATEMENT }`
 fn body(alloc: Global, statement: Stmt) -> Result<Rc<Block>, Fail> {
@@ -48,8 +40,8 @@ fn role(alloc: Global, name: Name, many: bool) -> Result<Role, Fail>
 fn program(alloc: Global) -> Result<Program, Fail>
     ensures { IfOk result (λ p. p ≡ sample) }
 {
-    let first = role(alloc, named(b"H"), false)?;
-    let second = role(alloc, named(b"Ws"), true)?;
+    let first = role(alloc, Name::of(b"H"), false)?;
+    let second = role(alloc, Name::of(b"Ws"), true)?;
     Ok(Program {
         enums: Enums {
             items: Vec::new(alloc),
@@ -75,9 +67,9 @@ fn filled(alloc: Global) -> Result<State, Fail> {
     let program = program(alloc)?;
     let mut state = State::initial(alloc, &program)?;
     state.push(&Pending {
-        from: named(b"H"),
-        to: named(b"Ws"),
-        channel: named(b"Go"),
+        from: Name::of(b"H"),
+        to: Name::of(b"Ws"),
+        channel: Name::of(b"Go"),
         number: 1,
     })?;
     Ok(state)
@@ -88,7 +80,7 @@ fn send(alloc: Global, channel: Name) -> Stmt {
     let exprs = Exprs {
         items: Vec::new(alloc),
     };
-    Stmt::Send(channel, exprs, Who::Name(named(b"H")))
+    Stmt::Send(channel, exprs, Who::Name(Name::of(b"H")))
 }
 
 // `recv Go() from PARTNER;`
@@ -96,17 +88,17 @@ fn hear(alloc: Global, from: Name) -> Stmt {
     let vars = Names {
         items: Vec::new(alloc),
     };
-    Stmt::Recv(named(b"Go"), vars, Who::Name(from))
+    Stmt::Recv(Name::of(b"Go"), vars, Who::Name(from))
 }
 
 // `send Up() to H;`
 fn up(alloc: Global) -> Stmt {
-    send(alloc, named(b"Up"))
+    send(alloc, Name::of(b"Up"))
 }
 
 // `recv Go() from H;`
 fn go(alloc: Global) -> Stmt {
-    hear(alloc, named(b"H"))
+    hear(alloc, Name::of(b"H"))
 }
 
 // `recv Go() from any BINDER in Vs { recv Go() from H; }`
@@ -116,10 +108,10 @@ fn any(alloc: Global, binder: Name) -> Result<Stmt, Fail> {
         items: Vec::new(alloc),
     };
     Ok(Stmt::RecvAny(AnyRecv {
-        channel: named(b"Go"),
+        channel: Name::of(b"Go"),
         vars,
         binder,
-        set: named(b"Vs"),
+        set: Name::of(b"Vs"),
         body,
     }))
 }
@@ -144,8 +136,8 @@ fn again(alloc: Global, statement: Stmt) -> Result<Stmt, Fail> {
 // `for v in Vs { STATEMENT }`
 fn each(alloc: Global, statement: Stmt) -> Result<Stmt, Fail> {
     Ok(Stmt::For(Loop {
-        binder: named(b"v"),
-        set: named(b"Vs"),
+        binder: Name::of(b"v"),
+        set: Name::of(b"Vs"),
         turn: 0,
         body: body(alloc, statement)?,
     }))
@@ -154,7 +146,14 @@ fn each(alloc: Global, statement: Stmt) -> Result<Stmt, Fail> {
 // What comes of two statements.
 fn two(alloc: Global, state: &State, first: Stmt, second: Stmt) -> Result<Stillness, Fail> {
     let code = Code::of(alloc, vec![in alloc; first, second]?)?;
-    let stillness = quiet(alloc, &code, named(b"Ws"), named(b"H"), named(b"Up"), state)?;
+    let stillness = quiet(
+        alloc,
+        &code,
+        Name::of(b"Ws"),
+        Name::of(b"H"),
+        Name::of(b"Up"),
+        state,
+    )?;
     Ok(stillness)
 }
 
@@ -212,8 +211,8 @@ fn a_receive_uses_up_a_message(rt: HostRuntime) -> Result<(), Fail> {
 #[test]
 fn other_partners_and_channels_are_passed_over(rt: HostRuntime) -> Result<(), Fail> {
     let alloc = rt.alloc();
-    let down = send(alloc, named(b"Down"));
-    let passed = after_none(alloc, hear(alloc, named(b"A")), down)?;
+    let down = send(alloc, Name::of(b"Down"));
+    let passed = after_none(alloc, hear(alloc, Name::of(b"A")), down)?;
     assert_eq!(rt; passed, Stillness::Ends);
     Ok(())
 }
@@ -221,9 +220,9 @@ fn other_partners_and_channels_are_passed_over(rt: HostRuntime) -> Result<(), Fa
 #[test]
 fn a_receive_from_any_is_walked_in_line(rt: HostRuntime) -> Result<(), Fail> {
     let alloc = rt.alloc();
-    let waits = after_none(alloc, any(alloc, named(b"v"))?, up(alloc))?;
+    let waits = after_none(alloc, any(alloc, Name::of(b"v"))?, up(alloc))?;
     assert_eq!(rt; waits, Stillness::Blocks);
-    let hidden = after_none(alloc, any(alloc, named(b"H"))?, up(alloc))?;
+    let hidden = after_none(alloc, any(alloc, Name::of(b"H"))?, up(alloc))?;
     assert_eq!(rt; hidden, Stillness::Sends);
     Ok(())
 }
@@ -233,9 +232,16 @@ fn of_a_set(alloc: Global, state: &State) -> Result<Stillness, Fail> {
     let vars = Names {
         items: Vec::new(alloc),
     };
-    let waits = Stmt::Recv(named(b"Go"), vars, Who::At(named(b"Ws")));
+    let waits = Stmt::Recv(Name::of(b"Go"), vars, Who::At(Name::of(b"Ws")));
     let code = Code::of(alloc, vec![in alloc; waits]?)?;
-    let stillness = quiet(alloc, &code, named(b"H"), named(b"Ws"), named(b"Up"), state)?;
+    let stillness = quiet(
+        alloc,
+        &code,
+        Name::of(b"H"),
+        Name::of(b"Ws"),
+        Name::of(b"Up"),
+        state,
+    )?;
     Ok(stillness)
 }
 
@@ -244,7 +250,7 @@ fn a_set_has_a_name_in_focus_alone(rt: HostRuntime) -> Result<(), Fail> {
     let alloc = rt.alloc();
     let mut state = empty(alloc)?;
     assert_eq!(rt; of_a_set(alloc, &state)?, Stillness::Ends);
-    state.focus(named(b"Ws"))?;
+    state.focus(Name::of(b"Ws"))?;
     assert_eq!(rt; of_a_set(alloc, &state)?, Stillness::Blocks);
     Ok(())
 }

@@ -17,7 +17,8 @@ use Rattle.brisk_schedule.specs.declared.schedule.Schedule.{Schedule}
 use Rattle.brisk_schedule.specs.declared.schedule.Choices.{Choices}
 use Rattle.brisk_schedule.specs.Reading.{Fails, Limit, MayFollow, TellsTurns, head_line, sizes_in}
 use Rattle.brisk_schedule.specs.Taking.{IsUnwanted, LacksEnd, Left, Takes, TakesInstance, TakesLine, TakesToEnd}
-use Rattle.brisk_schedule.specs.Texts.{AreChoicesFor, IsReady, IsScheduleFor, IsTold, Sizes, choices_lines, choices_text, event_line, instance_lines, most_weight, schedule_lines, schedule_text, text_of_lines}
+use Rattle.brisk_instance.specs.Starting.{IsReady, most_weight}
+use Rattle.brisk_schedule.specs.Texts.{AreChoicesFor, IsScheduleFor, IsTold, Sizes, choices_lines, choices_text, event_line, instance_lines, schedule_lines, schedule_text, text_of_lines}
 use Rattle.brisk_schedule.proofs.Instances.{instance_stands}
 use Rattle.brisk_schedule.proofs.Sections.{Behind, behind_more, behind_next, behind_open, free_stand, next_behind}
 use Rattle.brisk_schedule.proofs.Standing.{At, at_more, same_sizes, unwanted_fails}

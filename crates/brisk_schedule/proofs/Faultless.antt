@@ -21,7 +21,8 @@ use Rattle.brisk_schedule.specs.declared.format.Format.TheVariants as format
 use Rattle.brisk_schedule.specs.Laws.{ChoicesStand, SchedulesStand}
 use Rattle.brisk_schedule.specs.Reading.{Fails, FailsBehind, IsEnded, IsHeavy, IsNext, IsOpen, Limit, Stands, nothing, one_more, has_line, head_line, sizes_in}
 use Rattle.brisk_schedule.specs.Taking.{IsFree, Left, Takes, TakesInstance}
-use Rattle.brisk_schedule.specs.Texts.{IsReady, IsTold, Sizes, choices_lines, event_line, input_line, instance_lines, most_weight, schedule_lines, size_line, text_of_lines}
+use Rattle.brisk_instance.specs.Starting.{IsReady, most_weight}
+use Rattle.brisk_schedule.specs.Texts.{IsTold, Sizes, choices_lines, event_line, input_line, instance_lines, schedule_lines, size_line, text_of_lines}
 use Rattle.brisk_schedule.proofs.Instances.{instance_stands}
 use Rattle.brisk_schedule.proofs.Sections.{Behind, behind_more, behind_next, behind_open, free_stand}
 use Rattle.brisk_schedule.proofs.Standing.{At, at_more, same_sizes}

@@ -15,7 +15,8 @@ use Rattle.brisk_schedule.specs.declared.format.Format.{Format}
 use Rattle.brisk_schedule.specs.declared.format.Format.TheVariants as format
 use Rattle.brisk_schedule.specs.Reading.{Fails, IsOpen, TellsSize, TellsValue, head_line, sizes_in, turns_of}
 use Rattle.brisk_schedule.specs.Taking.{IsUnwanted, Lacks, Left, Takes, TakesAll, TakesInstance, TakesLine}
-use Rattle.brisk_schedule.specs.Texts.{Sizes, input_line, instance_lines, most_weight, size_line}
+use Rattle.brisk_instance.specs.Starting.{most_weight}
+use Rattle.brisk_schedule.specs.Texts.{Sizes, input_line, instance_lines, size_line}
 use Rattle.brisk_schedule.proofs.Sections.{Behind, InSizes, behind_sizes, heavy_sizes, later_needs, sizes_lack, sizes_stand, values_lack, values_stand}
 use Rattle.brisk_schedule.proofs.Standing.{At, at_more, at_start, heavy_fails, unended, unwanted_fails}
 use Rattle.brisk_schedule.proofs.Takes.{takes_both, takes_split}

@@ -15,7 +15,8 @@ use Rattle.brisk_schedule.specs.declared.fault.ScheduleFault.{ScheduleFault}
 use Rattle.brisk_schedule.specs.declared.format.Format.{Format}
 use Rattle.brisk_schedule.specs.Reading.{Fails, IsFirst, IsHeavy, IsNext, IsOpen, Need, Head, SizeOf, ValueAt, TellsSize, TellsValue, needs, sizes_in, turns_of}
 use Rattle.brisk_schedule.specs.Taking.{IsFree, Lacks, Left, Takes}
-use Rattle.brisk_schedule.specs.Texts.{Sizes, input_line, most_weight, size_line}
+use Rattle.brisk_instance.specs.Starting.{most_weight}
+use Rattle.brisk_schedule.specs.Texts.{Sizes, input_line, size_line}
 use Rattle.brisk_schedule.proofs.Goes.{told_size, told_value}
 use Rattle.brisk_schedule.proofs.Standing.{At, NoEnd, at_more, drop_next, fails_so, no_end_more, same_sizes, unended, unwanted_fails}
 

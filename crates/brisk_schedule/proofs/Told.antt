@@ -26,7 +26,8 @@ use Rattle.brisk_lines.specs.declared.line.Process.{Process}
 use Rattle.brisk_schedule.specs.declared.schedule.Schedule.{Schedule}
 use Rattle.brisk_schedule.specs.declared.schedule.Choices.{Choices}
 use Rattle.brisk_schedule.specs.Laws.{ChoicesDiffer, SchedulesDiffer}
-use Rattle.brisk_schedule.specs.Texts.{AreChoicesFor, IsReady, IsScheduleFor, IsTold, Sizes, choices_lines, event_line, input_line, instance_lines, is_sized, is_told, is_told_if, schedule_lines, size_line, written}
+use Rattle.brisk_instance.specs.Starting.{IsReady}
+use Rattle.brisk_schedule.specs.Texts.{AreChoicesFor, IsScheduleFor, IsTold, Sizes, choices_lines, event_line, input_line, instance_lines, is_sized, is_told, is_told_if, schedule_lines, size_line, written}
 use Rattle.brisk_schedule.proofs.Faultless.{same_lines}
 
 -- ---- what a line tells

@@ -1,5 +1,5 @@
 -- The texts of how a schedule ended and of a store.
-use Rattle.std.specs.Prelude.{◌≡◌, ℕ, Bool, true, false, List, [], ◌++◌, map, flat_map, Option, codes}
+use Rattle.std.specs.Prelude.{◌≡◌, ℕ, Bool, List, [], ◌++◌, map, flat_map, Option, codes}
 use Rattle.std.specs.Fmt.{decimal}
 use Rattle.std.specs.List.{range_with_len}
 use Rattle.brisk_values.specs.declared.value.Pid.{Pid}
@@ -13,6 +13,7 @@ use Rattle.brisk_syntax.specs.Typing.{is_set}
 use Rattle.brisk_syntax.specs.Value.{or_false}
 use Rattle.brisk_instance.specs.Begun.{members_of}
 use Rattle.brisk_print.specs.Layout.{Text, head, value_text}
+use Rattle.brisk_lines.specs.Lines.{process_text}
 use Rattle.brisk_async.specs.declared.fault.StepFault.{StepFault}
 use Rattle.brisk_async.specs.declared.fault.StepFault.TheVariants as fault
 use Rattle.brisk_async.specs.declared.queue.Queue.{Queue}
@@ -20,11 +21,11 @@ use Rattle.brisk_async.specs.InOrder.{AreQueues}
 use Rattle.brisk_async.specs.Machine.{State}
 use Rattle.brisk_schedule.specs.declared.played.Ended.{Ended}
 use Rattle.brisk_schedule.specs.declared.played.Ended.TheVariants.{Halted, Deadlocked, Running, Refused}
+use Rattle.brisk_schedule.specs.Texts.{process_of}
 
 -- a process: a member of a set with its number, and a single role by its name
-abbrev pub process_text : Bool → Pid → Text
-process_text true p = p.role ++ codes "[" ++ decimal p.member ++ codes "]"
-process_text false p = p.role
+unfoldable pub shown : Bool → Pid → Text
+shown many p = process_text (process_of many p)
 
 -- the name of a fault
 abbrev pub why_text : StepFault → Text
@@ -60,7 +61,7 @@ all_lines sizes lines roles = flat_map (role_lines sizes lines) roles
 
 -- the line of a variable
 abbrev pub variable_line : RoleText → Pid → Name → Value → Text
-variable_line r p x v = process_text r.many p ++ codes "." ++ x ++ codes " = " ++ value_text v ++ codes "\n"
+variable_line r p x v = shown r.many p ++ codes "." ++ x ++ codes " = " ++ value_text v ++ codes "\n"
 
 -- the lines of a process's variables, in order of declaration; what has no value is shown as false
 abbrev pub variable_lines : (Pid → Name → Option Value) → RoleText → Pid → Text
@@ -73,7 +74,7 @@ store_text sizes roles store = all_lines sizes (variable_lines store) roles
 -- the line of what is left of a process's code, if something is
 abbrev pub left_line : RoleText → Pid → Code → Text
 left_line r p done = []
-left_line r p (s ⨾ rest) = codes "left " ++ process_text r.many p ++ codes ": " ++ head s ++ codes "\n"
+left_line r p (s ⨾ rest) = codes "left " ++ shown r.many p ++ codes ": " ++ head s ++ codes "\n"
 
 -- the same, from the code of each process
 abbrev pub left_lines : (Pid → Code) → RoleText → Pid → Text
@@ -85,7 +86,7 @@ left_text sizes roles code = all_lines sizes (left_lines code) roles
 
 -- a process, of which its role says how it is written
 unfoldable pub named_text : List RoleText → Pid → Text
-named_text roles p = process_text (is_set roles p.role) p
+named_text roles p = shown (is_set roles p.role) p
 
 -- the sender and the receiver of a queue
 unfoldable pub ends_text : List RoleText → Queue → Text

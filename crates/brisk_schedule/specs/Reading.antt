@@ -15,7 +15,8 @@ use Rattle.brisk_schedule.specs.declared.fault.ScheduleFault.{ScheduleFault}
 use Rattle.brisk_schedule.specs.declared.fault.ScheduleFault.TheVariants.{Text, Misfit, TooLarge, NoMemory}
 use Rattle.brisk_schedule.specs.declared.format.Format.{Format}
 use Rattle.brisk_schedule.specs.declared.format.Format.TheVariants.{Schedule, Choices}
-use Rattle.brisk_schedule.specs.Texts.{Sizes, is_sized, most_weight, text_of_lines, written}
+use Rattle.brisk_instance.specs.Starting.{most_weight}
+use Rattle.brisk_schedule.specs.Texts.{Sizes, is_sized, text_of_lines, written}
 
 -- the line is one of those that a text of the format has
 abbrev pub has_line : Format → Line → Bool

@@ -13,7 +13,8 @@ use Rattle.brisk_schedule.specs.declared.fault.ScheduleFault.{ScheduleFault}
 use Rattle.brisk_schedule.specs.declared.fault.ScheduleFault.TheVariants.{Text, Misfit, TooLarge, NoMemory}
 use Rattle.brisk_schedule.specs.declared.format.Format.{Format}
 use Rattle.brisk_schedule.specs.Reading.{HasLine, HasNoLine, MayFollow, head_line}
-use Rattle.brisk_schedule.specs.Texts.{Sizes, instance_lines, most_weight}
+use Rattle.brisk_instance.specs.Starting.{most_weight}
+use Rattle.brisk_schedule.specs.Texts.{Sizes, instance_lines}
 
 -- what is left of a text of this format, and how many of its lines were taken
 pub record Left : Type 0 where

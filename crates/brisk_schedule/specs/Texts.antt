@@ -1,5 +1,5 @@
 -- The texts of schedules and of choices: the lines of a tree, and which trees have a text.
-use Rattle.std.specs.Prelude.{◌≡◌, ℕ, ◌≤◌, Bool, true, ◌||◌, List, [], ◌∷◌, ◌++◌, map, flat_map, Option, Some, None, option_map, codes, if◌then◌else◌, nat_eq}
+use Rattle.std.specs.Prelude.{◌≡◌, ℕ, Bool, true, ◌||◌, List, [], ◌∷◌, ◌++◌, map, flat_map, Option, Some, None, option_map, codes, if◌then◌else◌, nat_eq}
 use Rattle.std.specs.List.{AllByRecursion}
 use Rattle.brisk_values.specs.declared.instance.Input.{Input as GivenInput}
 use Rattle.brisk_values.specs.declared.instance.Instance.{Instance as Given}
@@ -7,9 +7,8 @@ use Rattle.brisk_values.specs.declared.value.Pid.{Pid}
 use Rattle.brisk_values.specs.Names.{Name}
 use Rattle.brisk_syntax.specs.declared.program.EnumDecl.{EnumDecl}
 use Rattle.brisk_syntax.specs.Roles.{RoleText}
-use Rattle.brisk_syntax.specs.Tokens.{weight}
 use Rattle.brisk_syntax.specs.Typing.{is_among}
-use Rattle.brisk_instance.specs.Given.{FitsAsGiven, instance_of}
+use Rattle.brisk_instance.specs.Starting.{IsReady}
 use Rattle.brisk_async.specs.declared.event.Event.{Event as Taken}
 use Rattle.brisk_lines.specs.declared.line.Line.{Line}
 use Rattle.brisk_lines.specs.declared.line.Line.TheVariants.{Schedule, Choices, Size, Input, Event, Turns, Choose, End}
@@ -26,9 +25,13 @@ Sizes = List (Name × ℕ)
 abbrev pub is_sized : Sizes → Name → Bool
 is_sized sizes n = is_among (map (λ e. e.0) sizes) n
 
--- how a process is written: with its number where there is a size for its role
+-- how a process is written: with its number where it is a member of a set
+abbrev pub process_of : Bool → Pid → Process
+process_of many p = record { role = p.role; member = if many then Some p.member else None }
+
+-- the same, where the sets are those that have a size
 abbrev pub written : Sizes → Pid → Process
-written sizes p = record { role = p.role; member = if is_sized sizes p.role then Some p.member else None }
+written sizes p = process_of (is_sized sizes p.role) p
 
 -- the line of a size
 abbrev pub size_line : Name × ℕ → Line
@@ -77,14 +80,6 @@ is_told_if sizes (Some p) = is_told sizes p
 -- the processes of the event are written without loss
 abbrev pub IsTold : Sizes → Taken → Type 0
 IsTold sizes e = (is_told sizes e.process ≡ true) × (is_told_if sizes e.sender ≡ true)
-
--- the greatest weight of an instance
-abbrev pub most_weight : ℕ
-most_weight = 2000000
-
--- the instance fits the roles, and isn't too heavy
-abbrev pub IsReady : List EnumDecl → List RoleText → Given → Type 0
-IsReady enums roles g = FitsAsGiven enums roles g × (weight roles (instance_of g) ≤ most_weight)
 
 -- the schedule has a text for these roles: its lines are legal, its instance fits, and its events are written without loss
 pub record IsScheduleFor (enums : List EnumDecl) (roles : List RoleText) (s : ScheduleTree) : Type 0 where

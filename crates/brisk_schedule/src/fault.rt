@@ -1,3 +1,4 @@
+//! Why a text is no schedule, or no choices.
 use brisk_values::NoMemory;
 use std::alloc::AllocFailed;
 use thiserror::Error;

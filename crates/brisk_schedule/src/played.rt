@@ -1,9 +1,8 @@
 //! Schedules played on a machine.
-ghost use Rattle.std.specs.Prelude.{◌≡◌, ◌≤◌, List, IfOk, IfErr, Some};
-ghost use Rattle.brisk_syntax.specs.Tokens.{weight};
+ghost use Rattle.std.specs.Prelude.{◌≡◌, List, IfOk, IfErr, Some};
 ghost use Rattle.brisk_syntax.specs.WellTyped.{IsProgramWellTyped};
-ghost use Rattle.brisk_instance.specs.Causes.{IsCause};
-ghost use Rattle.brisk_instance.specs.Given.{FitsAsGiven, instance_of};
+ghost use Rattle.brisk_instance.specs.Starting.{IsCause, IsReady};
+ghost use Rattle.brisk_instance.specs.Given.{instance_of};
 ghost use Rattle.brisk_async.specs.declared.event.Event.{Event as Taken};
 ghost use Rattle.brisk_async.specs.Machine.{State, run, start as start_of};
 ghost use Rattle.brisk_async.specs.States.{state_of};
@@ -50,7 +49,7 @@ fn standing(machine: &Machine) -> Ended
 /// Takes the events in order, from the start of the instance, up to the first that has no next state.
 pub fn play(alloc: Global, program: &Program, schedule: &Schedule) -> Result<Played, StartFault>
     requires { IsProgramWellTyped program.now }
-    ensures fits { IfOk result (λ _. FitsAsGiven program.now.enums program.now.roles schedule.now.instance × (weight program.now.roles (instance_of schedule.now.instance) ≤ 2000000)) }
+    ensures fits { IfOk result (λ _. IsReady program.now.enums program.now.roles schedule.now.instance) }
     ensures kept { IfOk result (λ p. p.machine.program ≡ program.now) }
     ensures ends { IfOk result (λ p. EndsSo (start_of program.now (instance_of schedule.now.instance)) schedule.now.events p.ended (state_of p.machine)) }
     ensures err { IfErr result (IsCause program.now.enums program.now.roles schedule.now.instance) }

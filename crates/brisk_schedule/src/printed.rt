@@ -1,44 +1,30 @@
 //! The texts of a store and of how a schedule ended.
-ghost use Rattle.std.specs.Prelude.{◌≡◌, ◌++◌, IfOk, OnOk, Option as Opt, flat_map};
-ghost use Rattle.brisk_values.specs.declared.value.Value.{Value as Val};
-ghost use Rattle.brisk_values.specs.Names.{Name as Bytes};
+ghost use Rattle.std.specs.Prelude.{◌≡◌, ◌++◌, IfOk, OnOk, flat_map};
 ghost use Rattle.brisk_values.specs.Places.{value_in};
-ghost use Rattle.brisk_syntax.specs.Declarations.{variable_of as variable_of_decl};
 ghost use Rattle.brisk_syntax.specs.Texts.{text_of};
 ghost use Rattle.brisk_syntax.specs.Typing.{is_set as is_set_of};
 ghost use Rattle.brisk_syntax.specs.Value.{or_false, size_in};
 ghost use Rattle.brisk_async.specs.Keys.{code_in_map};
 ghost use Rattle.brisk_async.specs.States.{state_of};
-ghost use Rattle.brisk_schedule.specs.Printing.{IsPlayedText, ended_text, ends_text, queue_line, left_lines, left_text, member_lines, named_text, process_text, role_lines, store_text, order_text, variable_line, variable_lines, why_text};
+ghost use Rattle.brisk_schedule.specs.Printing.{IsPlayedText, ended_text, ends_text, queue_line, left_lines, left_text, member_lines, named_text, role_lines, shown, store_text, order_text, variable_line, variable_lines, why_text};
 
 use crate::played::{Ended, Played};
+use crate::writing::process_of;
 use brisk_async::{Machine, Queue, StepFault};
 use brisk_instance::members_of;
+use brisk_lines::put_process;
 use brisk_print::{print_head, put, put_number, put_value};
 use brisk_seq::SeqProgram;
-use brisk_syntax::{Decl, Program, Role, Roles};
+use brisk_syntax::{Program, Role, Roles};
 use brisk_values::{Instance, Name, NoMemory, Pid, Sizes, Store, Value};
 use std::alloc::Global;
 
 // A process; a member of a set with its number.
-fn put_process(out: &mut Vec<u8>, many: bool, process: &Pid) -> Result<(), NoMemory>
-    ensures { OnOk result (out.new.items ≡ out.old.items ++ process_text many process.now) }
+#[tactic(auto, unfolding(crate::specs::Printing::shown))]
+fn put_shown(out: &mut Vec<u8>, many: bool, process: &Pid) -> Result<(), NoMemory>
+    ensures { OnOk result (out.new.items ≡ out.old.items ++ shown many process.now) }
 {
-    put(out, process.role.bytes())?;
-    if many {
-        put(out, b"[")?;
-        put_number(out, u64::from(process.member))?;
-        put(out, b"]")?;
-    }
-    Ok(())
-}
-
-fn variable_of(decl: &Decl) -> Name
-    ensures { result ≡ variable_of_decl decl.now }
-{
-    match decl {
-        Decl::Var(x, _, _) | Decl::Input(x, _) => *x,
-    }
+    put_process(out, &process_of(many, process))
 }
 
 // The line of a variable; what has no value is shown as false.
@@ -52,7 +38,7 @@ fn put_variable(
     ensures { OnOk result (out.new.items ≡ out.old.items ++ variable_line (text_of role.now) process.now variable (or_false (value_in store.now process.now variable))) }
 {
     let value = store.get(*process, variable).unwrap_or(Value::Bool(false));
-    put_process(out, role.many, process)?;
+    put_shown(out, role.many, process)?;
     put(out, b".")?;
     put(out, variable.bytes())?;
     put(out, b" = ")?;
@@ -69,7 +55,7 @@ fn put_variables(
     ensures { OnOk result (out.new.items ≡ out.old.items ++ variable_lines (value_in store.now) (text_of role.now) process.now) }
 {
     for decl in &role.decls.items {
-        put_variable(out, role, process, variable_of(decl), store)?;
+        put_variable(out, role, process, decl.variable(), store)?;
     }
     Ok(())
 }
@@ -137,7 +123,7 @@ fn put_left(
         return Ok(());
     };
     put(out, b"left ")?;
-    put_process(out, role.many, process)?;
+    put_shown(out, role.many, process)?;
     put(out, b": ")?;
     put(out, &print_head(alloc, head)?)?;
     put(out, b"\n")
@@ -240,7 +226,7 @@ fn is_set(roles: &Roles, name: &Name) -> bool
 fn put_named(out: &mut Vec<u8>, roles: &Roles, process: &Pid) -> Result<(), NoMemory>
     ensures { OnOk result (out.new.items ≡ out.old.items ++ named_text roles.now process.now) }
 {
-    put_process(out, is_set(roles, &process.role), process)
+    put_shown(out, is_set(roles, &process.role), process)
 }
 
 // The sender and the receiver of a queue.

@@ -1,3 +1,4 @@
+//! Schedules and choices.
 use brisk_async::Event;
 use brisk_values::Instance;
 use std::marker::Model;

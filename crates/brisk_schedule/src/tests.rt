@@ -1,5 +1,4 @@
 //! A store is shown, and a schedule is played.
-ghost use Rattle.std.specs.Prelude.{◌≡◌, ◌<◌, ◌≤◌, length};
 ghost use Rattle.brisk_syntax.specs.WellTyped.{IsProgramWellTyped};
 ghost use Rattle.brisk_seq.specs.WellTyped.{IsSeqWellTyped};
 
@@ -15,14 +14,6 @@ use std::alloc::Global;
 use std::rc::Rc;
 use std::test::Fail;
 
-fn named(bytes: &[u8]) -> Name
-    requires some { 0 < length bytes.now }
-    requires few { length bytes.now ≤ 64 }
-    ensures { result ≡ bytes.now }
-{
-    Name::new(bytes).unwrap()
-}
-
 // `one NAME { input v : int; }`, or `many NAME ..`
 fn role(alloc: Global, name: Name, many: bool) -> Result<Role, Fail> {
     let code = Block {
@@ -33,15 +24,15 @@ fn role(alloc: Global, name: Name, many: bool) -> Result<Role, Fail> {
         many,
         nonempty: false,
         decls: Decls {
-            items: vec![in alloc; Decl::Input(named(b"v"), Kind::Int)]?,
+            items: vec![in alloc; Decl::Input(Name::of(b"v"), Kind::Int)]?,
         },
         code: Rc::new(alloc, code)?,
     })
 }
 
 fn of_two(alloc: Global) -> Result<SeqProgram, Fail> {
-    let single = role(alloc, named(b"A"), false)?;
-    let set = role(alloc, named(b"Ws"), true)?;
+    let single = role(alloc, Name::of(b"A"), false)?;
+    let set = role(alloc, Name::of(b"Ws"), true)?;
     Ok(SeqProgram {
         enums: Enums {
             items: Vec::new(alloc),
@@ -59,7 +50,7 @@ fn of_two(alloc: Global) -> Result<SeqProgram, Fail> {
 fn instance(alloc: Global) -> Result<Instance, Fail> {
     Ok(Instance {
         sizes: Sizes {
-            items: vec![in alloc; (named(b"Ws"), 2)]?,
+            items: vec![in alloc; (Name::of(b"Ws"), 2)]?,
         },
         inputs: Inputs {
             items: Vec::new(alloc),
@@ -71,11 +62,11 @@ fn instance(alloc: Global) -> Result<Instance, Fail> {
 fn a_store_is_shown_by_role_and_member(rt: HostRuntime) -> Result<(), Fail> {
     let alloc = rt.alloc();
     let second = Pid {
-        role: named(b"Ws"),
+        role: Name::of(b"Ws"),
         member: 1,
     };
     let mut store = Store::new(alloc);
-    store.set(second, named(b"v"), Value::Int(-5))?;
+    store.set(second, Name::of(b"v"), Value::Int(-5))?;
     let text = print_store(alloc, &of_two(alloc)?, &instance(alloc)?, &store)?;
     let expected = b"halted\nA.v = false\nWs[0].v = false\nWs[1].v = -5\n";
     assert_eq!(rt; text.as_slice(), expected.as_slice());
@@ -121,7 +112,7 @@ fn a_schedule_halts_or_is_refused(rt: HostRuntime) -> Result<(), Fail> {
     assert_eq!(rt; text.as_slice(), b"halted\n".as_slice());
     let event = Event {
         process: Pid {
-            role: named(b"Q"),
+            role: Name::of(b"Q"),
             member: 0,
         },
         sender: None,
@@ -139,11 +130,11 @@ fn a_schedule_is_written(rt: HostRuntime) -> Result<(), Fail> {
     let alloc = rt.alloc();
     let event = Event {
         process: Pid {
-            role: named(b"A"),
+            role: Name::of(b"A"),
             member: 0,
         },
         sender: Some(Pid {
-            role: named(b"Ws"),
+            role: Name::of(b"Ws"),
             member: 1,
         }),
         place: Some(3),
@@ -169,8 +160,11 @@ fn a_schedule_is_read(rt: HostRuntime) -> Result<(), Fail> {
     assert_eq!(rt; schedule.instance.sizes.items.len(), 0);
     assert_eq!(rt; schedule.events.items.len(), 1);
     let event = &schedule.events.items[0];
-    assert_eq!(rt; event.process.role, named(b"Q"));
-    assert_eq!(rt; event.sender.map(|sender| sender.role), Some(named(b"R")));
+    assert_eq!(rt; event.process.role, Name::of(b"Q"));
+    assert_eq!(rt;
+        event.sender.map(|sender| sender.role),
+        Some(Name::of(b"R"))
+    );
     assert_eq!(rt; event.place, Some(3));
     assert_eq!(rt; write(alloc, &schedule)?.as_slice(), text.as_slice());
     Ok(())

@@ -1,6 +1,6 @@
 //! Schedules, written.
 ghost use Rattle.std.specs.Prelude.{◌≡◌, ◌++◌, IfOk, OnOk, [], ◌∷◌, map, option_map};
-ghost use Rattle.brisk_schedule.specs.Texts.{event_line, input_line, instance_lines, is_sized as has_size, schedule_text, size_line, text_of_lines, written as written_in};
+ghost use Rattle.brisk_schedule.specs.Texts.{event_line, input_line, instance_lines, is_sized as has_size, process_of as process_with, schedule_text, size_line, text_of_lines, written as written_in};
 
 use crate::schedule::{Events, Schedule};
 use brisk_async::Event;
@@ -20,21 +20,21 @@ pub fn is_sized(sizes: &Sizes, role: &Name) -> bool
     false
 }
 
-/// How a process is written.
+/// How a process is written: with its number where it is a member of a set.
+pub fn process_of(many: bool, process: &Pid) -> Process
+    ensures { result ≡ process_with many process.now }
+{
+    Process {
+        role: process.role,
+        member: if many { Some(process.member) } else { None },
+    }
+}
+
+/// The same, where the sets are those that have a size.
 pub fn written(sizes: &Sizes, process: &Pid) -> Process
     ensures { result ≡ written_in sizes.now process.now }
 {
-    if is_sized(sizes, &process.role) {
-        Process {
-            role: process.role,
-            member: Some(process.member),
-        }
-    } else {
-        Process {
-            role: process.role,
-            member: None,
-        }
-    }
+    process_of(is_sized(sizes, &process.role), process)
 }
 
 fn sender_written(sizes: &Sizes, sender: &Option<Pid>) -> Option<Process>

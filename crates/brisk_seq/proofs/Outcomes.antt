@@ -15,7 +15,7 @@ use Rattle.brisk_syntax.specs.Typing.{AreDeclsWellTyped, are_distinct, is_among}
 use Rattle.brisk_syntax.specs.Value.{size_in}
 use Rattle.brisk_instance.specs.declared.fault.StartFault.{StartFault}
 use Rattle.brisk_instance.specs.declared.fault.StartFault.TheVariants as start
-use Rattle.brisk_instance.specs.Causes.{IsCause}
+use Rattle.brisk_instance.specs.Starting.{IsCause}
 use Rattle.brisk_instance.specs.Given.{AreApart, FitsAsGiven, instance_of}
 use Rattle.brisk_instance.proofs.Started.{started_sizes}
 use Rattle.brisk_seq.specs.declared.evaluator.Running.{Running}

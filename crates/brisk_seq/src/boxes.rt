@@ -3,29 +3,10 @@ ghost use Rattle.std.specs.Prelude.{◌≡◌, OnOk, is_some};
 ghost use Rattle.std.specs.FinMap as map;
 ghost use Rattle.brisk_seq.specs.Cells.{with_full, without_full};
 
-use brisk_values::{NoMemory, Pid, Value};
+use brisk_values::{NoMemory, Pid, Values};
 use std::alloc::Global;
 use std::collections::BTreeMap;
 use std::marker::Model;
-
-/// The values in a full box.
-#[derive(Drop)]
-pub struct Values {
-    pub items: Vec<Value>,
-}
-
-impl Model for Values {
-    ghost use Rattle.std.specs.Prelude.{List};
-    ghost use Rattle.std.specs.Coded.{coded_list};
-    ghost use Rattle.brisk_values.specs.Places.{coded_value};
-    ghost use Rattle.brisk_values.specs.declared.value.Value.{Value as Val};
-
-    ghost Value = { List Val };
-
-    ghost coded = { coded_list coded_value };
-
-    ghost view = { λ a. a.items.items };
-}
 
 /// The number, the sender and the receiver of a box.
 #[derive(Clone, Copy, Debug, PartialEq, Eq, PartialOrd, Ord)]

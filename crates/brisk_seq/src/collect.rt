@@ -1,5 +1,5 @@
 //! A program that collects a number of each member, run in the orders that choices name.
-ghost use Rattle.std.specs.Prelude.{◌≡◌, ◌<◌, ◌≤◌, length, IfOk, [], ◌∷◌};
+ghost use Rattle.std.specs.Prelude.{◌≡◌, IfOk, [], ◌∷◌};
 ghost use Rattle.brisk_syntax.specs.Syntax.{Var};
 ghost use Rattle.brisk_syntax.specs.Texts.{text_of};
 ghost use Rattle.brisk_seq.specs.Items as tree;
@@ -13,14 +13,6 @@ use std::alloc::Global;
 use std::rc::Rc;
 use std::test::Fail;
 
-fn named(bytes: &[u8]) -> Name
-    requires some { 0 < length bytes.now }
-    requires few { length bytes.now ≤ 64 }
-    ensures { result ≡ bytes.now }
-{
-    Name::new(bytes).unwrap()
-}
-
 // `one M { var x : int = 0; var l : int = 0; }`
 fn collector(alloc: Global) -> Result<Role, NoMemory>
     ensures { IfOk result (λ r. text_of r ≡ collector_text) }
@@ -28,10 +20,10 @@ fn collector(alloc: Global) -> Result<Role, NoMemory>
     let code = Block {
         items: Vec::new(alloc),
     };
-    let x = Decl::Var(named(b"x"), Kind::Int, Const::Num(false, 0));
-    let l = Decl::Var(named(b"l"), Kind::Int, Const::Num(false, 0));
+    let x = Decl::Var(Name::of(b"x"), Kind::Int, Const::Num(false, 0));
+    let l = Decl::Var(Name::of(b"l"), Kind::Int, Const::Num(false, 0));
     Ok(Role {
-        name: named(b"M"),
+        name: Name::of(b"M"),
         many: false,
         nonempty: false,
         decls: Decls {
@@ -49,11 +41,11 @@ fn senders(alloc: Global) -> Result<Role, NoMemory>
         items: Vec::new(alloc),
     };
     Ok(Role {
-        name: named(b"Ws"),
+        name: Name::of(b"Ws"),
         many: true,
         nonempty: false,
         decls: Decls {
-            items: vec![in alloc; Decl::Input(named(b"v"), Kind::Int)]?,
+            items: vec![in alloc; Decl::Input(Name::of(b"v"), Kind::Int)]?,
         },
         code: Rc::new(alloc, code)?,
     })
@@ -79,8 +71,20 @@ fn copies(alloc: Global, to: Name, x: Name, from: Name, y: Name) -> Result<Seq, 
 fn turn(alloc: Global) -> Result<Body, NoMemory>
     ensures { IfOk result (λ b. b ≡ turn_items) }
 {
-    let first = copies(alloc, named(b"M"), named(b"x"), named(b"Ws"), named(b"v"))?;
-    let second = copies(alloc, named(b"M"), named(b"l"), named(b"M"), named(b"x"))?;
+    let first = copies(
+        alloc,
+        Name::of(b"M"),
+        Name::of(b"x"),
+        Name::of(b"Ws"),
+        Name::of(b"v"),
+    )?;
+    let second = copies(
+        alloc,
+        Name::of(b"M"),
+        Name::of(b"l"),
+        Name::of(b"M"),
+        Name::of(b"x"),
+    )?;
     Ok(Body {
         items: vec![in alloc; first, second]?,
     })
@@ -91,7 +95,7 @@ fn program(alloc: Global) -> Result<SeqProgram, NoMemory>
 {
     let first = collector(alloc)?;
     let second = senders(alloc)?;
-    let each = Seq::ForAny(named(b"Ws"), turn(alloc)?);
+    let each = Seq::ForAny(Name::of(b"Ws"), turn(alloc)?);
     Ok(SeqProgram {
         enums: Enums {
             items: Vec::new(alloc),
@@ -107,7 +111,7 @@ fn program(alloc: Global) -> Result<SeqProgram, NoMemory>
 
 fn sender(member: u32) -> Pid {
     Pid {
-        role: named(b"Ws"),
+        role: Name::of(b"Ws"),
         member,
     }
 }
@@ -115,7 +119,7 @@ fn sender(member: u32) -> Pid {
 fn input(member: u32, n: i64) -> Input {
     Input {
         process: sender(member),
-        variable: named(b"v"),
+        variable: Name::of(b"v"),
         value: Value::Int(n),
     }
 }
@@ -125,7 +129,7 @@ fn ran(alloc: Global, members: u32, choices: &[u32]) -> Result<Store, SeqFault> 
     let program = program(alloc)?;
     let instance = Instance {
         sizes: Sizes {
-            items: vec![in alloc; (named(b"Ws"), members)]?,
+            items: vec![in alloc; (Name::of(b"Ws"), members)]?,
         },
         inputs: Inputs {
             items: vec![in alloc; input(0, 10), input(1, 20)]?,
@@ -137,7 +141,7 @@ fn ran(alloc: Global, members: u32, choices: &[u32]) -> Result<Store, SeqFault> 
 // The value of a variable of M.
 fn collected(store: &Store, variable: Name) -> Option<Value> {
     let process = Pid {
-        role: named(b"M"),
+        role: Name::of(b"M"),
         member: 0,
     };
     store.get(process, variable)
@@ -148,13 +152,13 @@ fn choices_name_the_order(rt: HostRuntime) -> Result<(), Fail> {
     let store = ran(rt.alloc(), 2, &[1, 0])?;
     let ten = Some(Value::Int(10));
     let twenty = Some(Value::Int(20));
-    assert_eq!(rt; collected(&store, named(b"x")), ten);
-    assert_eq!(rt; collected(&store, named(b"l")), ten);
-    assert_eq!(rt; store.get(sender(0), named(b"v")), ten);
-    assert_eq!(rt; store.get(sender(1), named(b"v")), twenty);
+    assert_eq!(rt; collected(&store, Name::of(b"x")), ten);
+    assert_eq!(rt; collected(&store, Name::of(b"l")), ten);
+    assert_eq!(rt; store.get(sender(0), Name::of(b"v")), ten);
+    assert_eq!(rt; store.get(sender(1), Name::of(b"v")), twenty);
     let store = ran(rt.alloc(), 2, &[0, 1])?;
-    assert_eq!(rt; collected(&store, named(b"x")), twenty);
-    assert_eq!(rt; collected(&store, named(b"l")), twenty);
+    assert_eq!(rt; collected(&store, Name::of(b"x")), twenty);
+    assert_eq!(rt; collected(&store, Name::of(b"l")), twenty);
     Ok(())
 }
 

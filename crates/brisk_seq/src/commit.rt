@@ -1,7 +1,7 @@
 //! Two-phase commit, run.
 use crate::evaluator::Setting;
 use crate::program::evaluate;
-use crate::tests::{at, named, pass, signal, two};
+use crate::tests::{at, pass, signal, two};
 use crate::{Body, Seq, SeqFault};
 use brisk_syntax::{Expr, Roles};
 use brisk_values::{Name, NoMemory, Op2, Sizes, Store, Value};
@@ -9,43 +9,43 @@ use std::alloc::Global;
 use std::test::Fail;
 
 fn c() -> Name {
-    named(b"C")
+    Name::of(b"C")
 }
 
 fn ps() -> Name {
-    named(b"Ps")
+    Name::of(b"Ps")
 }
 
 fn v() -> Name {
-    named(b"v")
+    Name::of(b"v")
 }
 
 fn ok() -> Name {
-    named(b"ok")
+    Name::of(b"ok")
 }
 
 fn d() -> Name {
-    named(b"d")
+    Name::of(b"d")
 }
 
 fn got() -> Name {
-    named(b"got")
+    Name::of(b"got")
 }
 
 fn finished() -> Name {
-    named(b"done")
+    Name::of(b"done")
 }
 
 fn vote(tag: Name) -> Value {
-    Value::Tag(named(b"Vote"), tag)
+    Value::Tag(Name::of(b"Vote"), tag)
 }
 
 fn decision(tag: Name) -> Value {
-    Value::Tag(named(b"Decision"), tag)
+    Value::Tag(Name::of(b"Decision"), tag)
 }
 
 fn commit() -> Expr {
-    Expr::Tag(named(b"Decision"), named(b"Commit"))
+    Expr::Tag(Name::of(b"Decision"), Name::of(b"Commit"))
 }
 
 // `if name.(x == tag) { item }`
@@ -61,9 +61,9 @@ fn only(alloc: Global, name: Name, guard: Expr, item: Seq) -> Result<Seq, NoMemo
 
 // The votes: `C.(v) := Ps.(vote);` and `if C.(v == Vote.No) { C.(ok) := C.(false); }`
 fn voting(alloc: Global) -> Result<Body, NoMemory> {
-    let no = Expr::Tag(named(b"Vote"), named(b"No"));
+    let no = Expr::Tag(Name::of(b"Vote"), Name::of(b"No"));
     let guard = two(alloc, Expr::Var(v()), Op2::Eq, no)?;
-    let cast = pass(alloc, c(), v(), ps(), Expr::Var(named(b"vote")))?;
+    let cast = pass(alloc, c(), v(), ps(), Expr::Var(Name::of(b"vote")))?;
     let refuse = pass(alloc, c(), ok(), c(), Expr::Bool(false))?;
     let judged = only(alloc, c(), guard, refuse)?;
     Ok(Body {
@@ -102,16 +102,16 @@ fn two_phase_commit(alloc: Global) -> Result<Body, NoMemory> {
 // What C starts with.
 fn start(alloc: Global) -> Result<Store, NoMemory> {
     let mut store = Store::new(alloc);
-    store.set(at(c(), 0), v(), vote(named(b"Yes")))?;
+    store.set(at(c(), 0), v(), vote(Name::of(b"Yes")))?;
     store.set(at(c(), 0), ok(), Value::Bool(true))?;
-    store.set(at(c(), 0), d(), decision(named(b"Abort")))?;
+    store.set(at(c(), 0), d(), decision(Name::of(b"Abort")))?;
     Ok(store)
 }
 
 // The member with this vote.
 fn add(store: &mut Store, member: u32, tag: Name) -> Result<(), NoMemory> {
-    store.set(at(ps(), member), named(b"vote"), vote(tag))?;
-    store.set(at(ps(), member), got(), decision(named(b"Abort")))?;
+    store.set(at(ps(), member), Name::of(b"vote"), vote(tag))?;
+    store.set(at(ps(), member), got(), decision(Name::of(b"Abort")))?;
     store.set(at(ps(), member), finished(), Value::Bool(false))
 }
 
@@ -134,12 +134,12 @@ fn ran(alloc: Global, store: Store, size: u32, choices: &[u32]) -> Result<Store,
 #[test]
 fn one_no_is_an_abort(rt: HostRuntime) -> Result<(), Fail> {
     let mut store = start(rt.alloc())?;
-    add(&mut store, 0, named(b"Yes"))?;
-    add(&mut store, 1, named(b"No"))?;
-    add(&mut store, 2, named(b"Yes"))?;
+    add(&mut store, 0, Name::of(b"Yes"))?;
+    add(&mut store, 1, Name::of(b"No"))?;
+    add(&mut store, 2, Name::of(b"Yes"))?;
     let store = ran(rt.alloc(), store, 3, &[2, 0, 1, 1, 0, 2])?;
-    let abort = Some(decision(named(b"Abort")));
-    assert_eq!(rt; store.get(at(c(), 0), v()), Some(vote(named(b"No"))));
+    let abort = Some(decision(Name::of(b"Abort")));
+    assert_eq!(rt; store.get(at(c(), 0), v()), Some(vote(Name::of(b"No"))));
     assert_eq!(rt; store.get(at(c(), 0), ok()), Some(Value::Bool(false)));
     assert_eq!(rt; store.get(at(c(), 0), d()), abort);
     for member in 0..3 {
@@ -155,11 +155,11 @@ fn one_no_is_an_abort(rt: HostRuntime) -> Result<(), Fail> {
 #[test]
 fn nobody_is_a_commit(rt: HostRuntime) -> Result<(), Fail> {
     let store = ran(rt.alloc(), start(rt.alloc())?, 0, &[])?;
-    assert_eq!(rt; store.get(at(c(), 0), v()), Some(vote(named(b"Yes"))));
+    assert_eq!(rt; store.get(at(c(), 0), v()), Some(vote(Name::of(b"Yes"))));
     assert_eq!(rt; store.get(at(c(), 0), ok()), Some(Value::Bool(true)));
     assert_eq!(rt;
         store.get(at(c(), 0), d()),
-        Some(decision(named(b"Commit")))
+        Some(decision(Name::of(b"Commit")))
     );
     Ok(())
 }

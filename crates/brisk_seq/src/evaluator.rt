@@ -1,20 +1,20 @@
 //! The evaluator of items.
-ghost use Rattle.std.specs.Prelude.{◌≡◌, ℕ, ◌<◌, List, [], ◌∷◌, ◌++◌, ◌&&◌, false, get_or, length, map, nat_lt, not, replicate, IfOk, IfErr, OnOk};
+ghost use Rattle.std.specs.Prelude.{◌≡◌, ℕ, ◌<◌, List, [], ◌&&◌, false, get_or, length, nat_lt, not, replicate, IfOk, IfErr, OnOk};
 ghost use Rattle.brisk_values.specs.Places.{value_in};
 ghost use Rattle.brisk_syntax.specs.Expressions.{expression_of};
-ghost use Rattle.brisk_syntax.specs.Stores.{stored, is_true as is_true_value};
+ghost use Rattle.brisk_syntax.specs.Stores.{is_true as is_true_value};
 ghost use Rattle.brisk_syntax.specs.Value.{value_of, size_in};
 ghost use Rattle.brisk_seq.specs.Items as tree;
 ghost use Rattle.brisk_seq.specs.Running.{focus_on, given_in, Goes, Leads, Marks, Stops};
 ghost use Rattle.brisk_seq.specs.Seen.{item_of};
 ghost use Rattle.brisk_seq.specs.Sequential.{Ended, Run, choose as spec_choose, do_all, does, in_focus};
 
-use crate::boxes::{Boxes, Cell, Values};
+use crate::boxes::{Boxes, Cell};
 use crate::fault::SeqFault;
 use crate::kinds::are_of_kinds;
 use crate::tree::{Body, Fill, Pass, Seq, Take};
-use brisk_syntax::{Expr, Exprs, Names, Roles, eval, size_of_set};
-use brisk_values::{Name, NoMemory, Pid, Sizes, Store, Value};
+use brisk_syntax::{Expr, Roles, eval, eval_all, is_true, size_of_set, store_all};
+use brisk_values::{Name, NoMemory, Pid, Sizes, Store};
 use std::alloc::Global;
 
 /// What stays the same in a run.
@@ -55,33 +55,6 @@ fn process(focus: &[Pid], name: Name) -> Pid
     found
 }
 
-// Stores the values at these variables of the process.
-fn store_all(
-    store: &mut Store,
-    process: &Pid,
-    vars: &Names,
-    values: &Values,
-) -> Result<(), NoMemory>
-    ensures { OnOk result (value_in store.new ≡ stored (value_in store.old) process.now vars.now values.now) }
-{
-    let xs = vars.items.as_slice();
-    let vs = values.items.as_slice();
-    for i in 0..xs.len().min(vs.len()) {
-        store.set(*process, xs[i], vs[i])?;
-    }
-    Ok(())
-}
-
-// Whether a value is true.
-fn is_true(value: Value) -> bool
-    ensures { result ≡ is_true_value value }
-{
-    match value {
-        Value::Bool(b) => b,
-        _ => false,
-    }
-}
-
 // A mark for each member of a set of this size, of which none is set.
 fn unmarked(alloc: Global, size: u32) -> Result<Vec<bool>, NoMemory>
     ensures none { IfOk result (λ v. v.items ≡ replicate size false) }
@@ -104,17 +77,6 @@ fn is_open(size: u32, used: &[bool], member: u32) -> bool
 }
 
 impl Setting<'_> {
-    // The values of the expressions.
-    fn values(&self, store: &Store, process: &Pid, exprs: &Exprs) -> Result<Values, NoMemory>
-        ensures { IfOk result (λ v. v ≡ map (value_of (size_in self.now.sizes.now) (value_in store.now process.now)) exprs.now) }
-    {
-        let mut items = Vec::new(self.alloc);
-        for e in &exprs.items {
-            items.push(eval(e, *process, store, self.sizes))?;
-        }
-        Ok(Values { items })
-    }
-
     fn guard(&self, run: &Running, focus: &[Pid], name: &Name, e: &Expr) -> bool
         ensures { result ≡ is_true_value (value_of (size_in self.now.sizes.now) (value_in run.now.store (focus_on focus.now name.now)) (expression_of e.now)) }
     {
@@ -126,7 +88,7 @@ impl Setting<'_> {
     {
         let from = process(focus, pass.from);
         let to = process(focus, pass.to);
-        let values = self.values(&run.store, &from, &pass.exprs)?;
+        let values = eval_all(self.alloc, &pass.exprs, &from, &run.store, self.sizes)?;
         store_all(&mut run.store, &to, &pass.vars, &values)?;
         run.moves = run.moves.saturating_add(1);
         Ok(())
@@ -145,7 +107,7 @@ impl Setting<'_> {
         if run.boxes.is_full(&cell) {
             return Err(SeqFault::BadBox(run.moves));
         }
-        let values = self.values(&run.store, &cell.from, &fill.exprs)?;
+        let values = eval_all(self.alloc, &fill.exprs, &cell.from, &run.store, self.sizes)?;
         run.boxes.put(cell, values)?;
         Ok(())
     }

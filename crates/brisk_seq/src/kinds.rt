@@ -1,23 +1,10 @@
 //! The kinds of a role's variables, and of values.
 ghost use Rattle.std.specs.Prelude.{◌≡◌};
-ghost use Rattle.std.specs.Option.{option_copied};
-ghost use Rattle.brisk_values.specs.Values as values;
 ghost use Rattle.brisk_syntax.specs.Declarations.{decls_of, kind_in, role_named};
 ghost use Rattle.brisk_seq.specs.Sequential as spec;
 
-use crate::boxes::Values;
 use brisk_syntax::{Decl, Decls, Names, Roles};
-use brisk_values::{Kind, Name, Value, kind_of};
-
-fn same_kind(a: &Kind, b: &Kind) -> bool
-    ensures { result ≡ values.same_kind a.now b.now }
-{
-    match (a, b) {
-        (Kind::Int, Kind::Int) | (Kind::Bool, Kind::Bool) => true,
-        (Kind::Enum(e), Kind::Enum(f)) => e == f,
-        _ => false,
-    }
-}
+use brisk_values::{Kind, Name, Value, Values, kind_of, same_kind};
 
 // The kind of a variable, where it is declared.
 fn declared_kind(decls: &[Decl], variable: &Name) -> Option<Kind>

@@ -1,6 +1,4 @@
 //! Small sequential programs, run.
-ghost use Rattle.std.specs.Prelude.{◌<◌, ◌≤◌, length};
-
 use crate::evaluator::Setting;
 use crate::program::evaluate;
 use crate::{Body, Fill, Pass, Seq, SeqFault, Take};
@@ -10,35 +8,28 @@ use std::alloc::Global;
 use std::rc::Rc;
 use std::test::Fail;
 
-pub fn named(bytes: &[u8]) -> Name
-    requires some { 0 < length bytes.now }
-    requires few { length bytes.now ≤ 64 }
-{
-    Name::new(bytes).unwrap()
-}
-
-fn m() -> Name {
-    named(b"M")
+pub fn m() -> Name {
+    Name::of(b"M")
 }
 
 fn ws() -> Name {
-    named(b"Ws")
+    Name::of(b"Ws")
 }
 
 fn k() -> Name {
-    named(b"k")
+    Name::of(b"k")
 }
 
 fn n() -> Name {
-    named(b"n")
+    Name::of(b"n")
 }
 
 fn t() -> Name {
-    named(b"t")
+    Name::of(b"t")
 }
 
 fn go() -> Name {
-    named(b"go")
+    Name::of(b"go")
 }
 
 pub fn at(role: Name, member: u32) -> Pid {

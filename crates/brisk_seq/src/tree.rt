@@ -1,3 +1,4 @@
+//! Sequential programs.
 use brisk_syntax::{Enums, Expr, Exprs, Names, Roles};
 use brisk_values::Name;
 use std::marker::Model;

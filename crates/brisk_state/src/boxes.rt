@@ -86,7 +86,7 @@ impl Boxes {
     pub(crate) fn in_use(&self, number: u32) -> bool
         ensures { result ≡ is_in_use self.now number }
     {
-        let _queues = &self.queues;
+        let _invariant = &self.queues;
         self.used.contains(&number)
     }
 
@@ -94,7 +94,7 @@ impl Boxes {
     pub(crate) fn least_free(&self) -> Option<u32>
         ensures { IsLeastFree self.now result }
     {
-        let _queues = &self.queues;
+        let _invariant = &self.queues;
         least_absent(&self.used)
     }
 

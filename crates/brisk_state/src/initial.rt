@@ -1,13 +1,12 @@
 //! What a state begins with: the threads and the facts of a program's roles.
 ghost use Rattle.std.specs.Prelude.{◌≡◌, ◌∷◌, [], map, IfOk, OnOk};
-ghost use Rattle.brisk_syntax.specs.Declarations.{constant_value as value_of_constant};
 ghost use Rattle.brisk_syntax.specs.Texts.{text_of};
 ghost use Rattle.brisk_state.specs.Symbolic.{all_first_facts, first_facts as first_facts_of, first_thread as thread_of};
 
 use crate::thread::{Mode, Thread};
 use brisk_facts::Facts;
-use brisk_syntax::{Const, Decl, Decls, Role, Roles, code_from};
-use brisk_values::{Name, NoMemory, Value, wrap};
+use brisk_syntax::{Decl, Decls, Role, Roles, code_from};
+use brisk_values::{Name, NoMemory};
 use std::alloc::Global;
 
 /// The threads with which the roles begin, in their order.
@@ -67,19 +66,7 @@ fn add_first(facts: &mut Facts, at: Name, decl: &Decl) -> Result<(), NoMemory>
     ensures { OnOk result (facts.new ≡ first_facts_of at (decl.now ∷ []) facts.old) }
 {
     match decl {
-        Decl::Var(x, _, constant) => facts.add(at, *x, constant_value(constant)),
+        Decl::Var(x, _, constant) => facts.add(at, *x, constant.value()),
         Decl::Input(_, _) => Ok(()),
-    }
-}
-
-// The value of a constant.
-fn constant_value(constant: &Const) -> Value
-    ensures { result ≡ value_of_constant constant.now }
-{
-    match constant {
-        Const::Num(true, n) => Value::Int(wrap(-i128::from(*n))),
-        Const::Num(false, n) => Value::Int(wrap(i128::from(*n))),
-        Const::Bool(b) => Value::Bool(*b),
-        Const::Tag(e, t) => Value::Tag(*e, *t),
     }
 }

@@ -1,5 +1,5 @@
 //! A state of a small program: its parts, its messages, and what is compared.
-ghost use Rattle.std.specs.Prelude.{◌≡◌, ◌<◌, ◌≤◌, length, IfOk};
+ghost use Rattle.std.specs.Prelude.{◌≡◌, IfOk};
 ghost use Rattle.brisk_syntax.specs.Texts.{text_of};
 ghost use Rattle.brisk_state.specs.Sample.{sample, set as set_text, single as single_text};
 
@@ -12,25 +12,17 @@ use std::alloc::Global;
 use std::rc::Rc;
 use std::test::Fail;
 
-fn named(bytes: &[u8]) -> Name
-    requires some { 0 < length bytes.now }
-    requires few { length bytes.now ≤ 64 }
-    ensures { result ≡ bytes.now }
-{
-    Name::new(bytes).unwrap()
-}
-
 // `one A { var x : int = 7; input y : int; }`
 fn single(alloc: Global) -> Result<Role, Fail>
     ensures { IfOk result (λ r. text_of r ≡ single_text) }
 {
-    let x = Decl::Var(named(b"x"), Kind::Int, Const::Num(false, 7));
-    let y = Decl::Input(named(b"y"), Kind::Int);
+    let x = Decl::Var(Name::of(b"x"), Kind::Int, Const::Num(false, 7));
+    let y = Decl::Input(Name::of(b"y"), Kind::Int);
     let code = Block {
         items: Vec::new(alloc),
     };
     Ok(Role {
-        name: named(b"A"),
+        name: Name::of(b"A"),
         many: false,
         nonempty: false,
         decls: Decls {
@@ -48,7 +40,7 @@ fn set(alloc: Global) -> Result<Role, Fail>
         items: Vec::new(alloc),
     };
     Ok(Role {
-        name: named(b"Ws"),
+        name: Name::of(b"Ws"),
         many: true,
         nonempty: false,
         decls: Decls {
@@ -84,9 +76,9 @@ fn begun(alloc: Global) -> Result<State, Fail> {
 
 fn message(to: Name, number: u32) -> Pending {
     Pending {
-        from: named(b"A"),
+        from: Name::of(b"A"),
         to,
-        channel: named(b"T"),
+        channel: Name::of(b"T"),
         number,
     }
 }
@@ -103,8 +95,8 @@ fn put(state: &mut State, to: Name, number: u32) -> Result<bool, Fail> {
 
 // Takes the oldest message from `A` to the other on `T`.
 fn taken(state: &mut State, to: Name) -> Option<u32> {
-    let number = state.oldest(named(b"A"), to, named(b"T"))?;
-    state.pop(named(b"A"), to, named(b"T"));
+    let number = state.oldest(Name::of(b"A"), to, Name::of(b"T"))?;
+    state.pop(Name::of(b"A"), to, Name::of(b"T"));
     Some(number)
 }
 
@@ -118,14 +110,14 @@ fn a_state_begins_with_threads_and_facts(rt: HostRuntime) -> Result<(), Fail> {
     assert_eq!(rt; mode(&state, 0), Some(Mode::One));
     assert_eq!(rt; mode(&state, 1), Some(Mode::Each));
     assert_eq!(rt; mode(&state, 2), None);
-    assert!(rt; state.code_of(named(b"B")).is_none());
-    let x = state.facts().get(named(b"A"), named(b"x"));
+    assert!(rt; state.code_of(Name::of(b"B")).is_none());
+    let x = state.facts().get(Name::of(b"A"), Name::of(b"x"));
     assert_eq!(rt; x, Some(Value::Int(7)));
-    assert_eq!(rt; state.facts().get(named(b"A"), named(b"y")), None);
-    assert_eq!(rt; state.focus(named(b"A")), Err(FocusFault::NoThread));
-    assert_eq!(rt; state.focus(named(b"B")), Err(FocusFault::NoThread));
-    assert_eq!(rt; state.focus(named(b"Ws")), Ok(()));
-    assert_eq!(rt; state.focus(named(b"Ws")), Err(FocusFault::SetIsFocused));
+    assert_eq!(rt; state.facts().get(Name::of(b"A"), Name::of(b"y")), None);
+    assert_eq!(rt; state.focus(Name::of(b"A")), Err(FocusFault::NoThread));
+    assert_eq!(rt; state.focus(Name::of(b"B")), Err(FocusFault::NoThread));
+    assert_eq!(rt; state.focus(Name::of(b"Ws")), Ok(()));
+    assert_eq!(rt; state.focus(Name::of(b"Ws")), Err(FocusFault::SetIsFocused));
     assert_eq!(rt; mode(&state, 1), Some(Mode::At));
     Ok(())
 }
@@ -133,15 +125,15 @@ fn a_state_begins_with_threads_and_facts(rt: HostRuntime) -> Result<(), Fail> {
 #[test]
 fn messages_pend_by_key(rt: HostRuntime) -> Result<(), Fail> {
     let mut state = begun(rt.alloc())?;
-    let set = named(b"Ws");
-    let single = named(b"A");
+    let set = Name::of(b"Ws");
+    let single = Name::of(b"A");
     assert!(rt; put(&mut state, set, 4)?);
     assert!(rt; put(&mut state, set, 1)?);
     assert!(rt; put(&mut state, single, 2)?);
     assert!(rt; !put(&mut state, single, 4)?);
     assert_eq!(rt; state.least_free(), Some(3));
-    assert_eq!(rt; state.count(single, set, named(b"T")), 2);
-    assert_eq!(rt; state.count(set, single, named(b"T")), 0);
+    assert_eq!(rt; state.count(single, set, Name::of(b"T")), 2);
+    assert_eq!(rt; state.count(set, single, Name::of(b"T")), 0);
     let list = state.pending()?;
     let wanted = [message(single, 2), message(set, 4), message(set, 1)];
     assert_eq!(rt; list.as_slice(), wanted.as_slice());
@@ -157,20 +149,20 @@ fn messages_pend_by_key(rt: HostRuntime) -> Result<(), Fail> {
 fn a_copy_differs_once_one_is_changed(rt: HostRuntime) -> Result<(), Fail> {
     let alloc = rt.alloc();
     let mut state = begun(alloc)?;
-    let step = Stmt::Assign(named(b"x"), Expr::Num(1));
+    let step = Stmt::Assign(Name::of(b"x"), Expr::Num(1));
     let code = Code::of(alloc, vec![in alloc; step]?)?;
-    match state.code_mut(named(b"A")) {
+    match state.code_mut(Name::of(b"A")) {
         Some(old) => *old = code,
         None => assert!(rt; false),
     }
     let mut copy = state.copy()?;
-    copy.facts_mut().kill(named(b"A"), named(b"x"));
+    copy.facts_mut().kill(Name::of(b"A"), Name::of(b"x"));
     assert!(rt; state.same(&copy));
-    match (state.code_of(named(b"A")), copy.code_of(named(b"A"))) {
+    match (state.code_of(Name::of(b"A")), copy.code_of(Name::of(b"A"))) {
         (Some(a), Some(b)) => assert!(rt; same_code(a, b)),
         _ => assert!(rt; false),
     }
-    assert!(rt; put(&mut copy, named(b"Ws"), 1)?);
+    assert!(rt; put(&mut copy, Name::of(b"Ws"), 1)?);
     assert!(rt; !state.same(&copy));
     Ok(())
 }

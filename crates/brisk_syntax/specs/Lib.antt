@@ -13,6 +13,7 @@ pub mod Stores
 pub mod Substitution
 pub mod Syntax
 pub mod Texts
+pub mod There
 pub mod Tokens
 pub mod Typing
 pub mod Value

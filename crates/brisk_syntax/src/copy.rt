@@ -1,4 +1,5 @@
-ghost use Rattle.std.specs.Prelude.{◌≡◌, IfOk, map};
+//! Copies, which share their bodies.
+ghost use Rattle.std.specs.Prelude.{◌≡◌, IfOk};
 ghost use Rattle.brisk_syntax.specs.Expressions.{expression_of};
 ghost use Rattle.brisk_syntax.specs.Statements.{statement_of, code_of};
 

@@ -1,3 +1,4 @@
+//! The number of statements of a program.
 ghost use Rattle.std.specs.Prelude.{◌≡◌, ◌-◌, ◌^◌, min};
 ghost use Rattle.brisk_syntax.specs.Counts.{program_statements, statements as statements_of, statements_in};
 ghost use Rattle.brisk_syntax.specs.Statements.{statement_of};

@@ -8,6 +8,7 @@ mod evaluate;
 mod lists;
 mod program;
 mod segments;
+mod stores;
 mod substitute;
 #[cfg(test)]
 mod tests;
@@ -16,11 +17,12 @@ mod tree;
 pub use copy::{code_from, copy_code, copy_expr, copy_exprs, copy_names};
 pub use count::statements;
 pub use equal::{same_code, same_expr};
-pub use evaluate::{eval, size_of_set};
+pub use evaluate::{eval, eval_all, is_true, size_of_set};
 pub use lists::{Exprs, Names};
 pub use program::{
     Channel, Channels, Const, Decl, Decls, EnumDecl, Enums, Kinds, Program, Role, Roles,
 };
 pub use segments::Code;
+pub use stores::store_all;
 pub use substitute::subst;
 pub use tree::{AnyRecv, Block, Expr, Loop, Stmt, Turns, Who};

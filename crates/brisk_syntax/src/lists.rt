@@ -1,3 +1,4 @@
+//! Lists of names and of expressions.
 use crate::tree::Expr;
 use brisk_values::Name;
 use std::marker::Model;

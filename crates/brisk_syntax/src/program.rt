@@ -1,6 +1,9 @@
+//! The text of a program, role by role.
+ghost use Rattle.std.specs.Prelude.{◌≡◌};
+
 use crate::lists::Names;
 use crate::tree::Block;
-use brisk_values::{Kind, Name};
+use brisk_values::{Kind, Name, Value, wrap};
 use std::marker::Model;
 use std::rc::Rc;
 
@@ -13,10 +16,40 @@ pub enum Const {
     Tag(Name, Name),
 }
 
+impl Const {
+    ghost use Rattle.brisk_syntax.specs.Declarations.{constant_value};
+
+    /// The value of the constant. A number is wrapped to 64 bits.
+    pub fn value(&self) -> Value
+        ensures { result ≡ constant_value self.now }
+    {
+        match self {
+            Const::Num(true, n) => Value::Int(wrap(-i128::from(*n))),
+            Const::Num(false, n) => Value::Int(wrap(i128::from(*n))),
+            Const::Bool(b) => Value::Bool(*b),
+            Const::Tag(e, t) => Value::Tag(*e, *t),
+        }
+    }
+}
+
+/// The declaration of a variable: with the value at which it starts, or as an input.
 #[derive(Clone, Copy, Debug, PartialEq, Eq)]
 pub enum Decl {
     Var(Name, Kind, Const),
     Input(Name, Kind),
+}
+
+impl Decl {
+    ghost use Rattle.brisk_syntax.specs.Declarations.{variable_of};
+
+    /// The variable that is declared.
+    pub fn variable(&self) -> Name
+        ensures { result ≡ variable_of self.now }
+    {
+        match self {
+            Decl::Var(x, _, _) | Decl::Input(x, _) => *x,
+        }
+    }
 }
 
 /// A list of declarations.
@@ -93,6 +126,17 @@ impl Model for Channels {
     ghost Value = { List Channel };
 
     ghost view = { λ a. a.items.items };
+}
+
+impl Channels {
+    ghost use Rattle.brisk_syntax.specs.Declarations.{is_loose as is_loose_in};
+
+    /// Whether a channel is declared loose.
+    pub fn is_loose(&self, channel: &Name) -> bool
+        ensures { result ≡ is_loose_in self.now channel.now }
+    {
+        self.items.iter().any(|c| channel == &c.name && c.loose)
+    }
 }
 
 /// A single process, or a set of processes of unknown size that run the same text.

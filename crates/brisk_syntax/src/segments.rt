@@ -1,7 +1,7 @@
 //! Code as a list of segments, which share the bodies that they come from.
-ghost use Rattle.std.specs.Prelude.{◌≡◌, ◌+◌, ◌<◌, ◌≤◌, ℕ, IfOk, IsSome, OnOk, OnErr, MatchOption, option_map, length, vec_len, vec_capacity};
+ghost use Rattle.std.specs.Prelude.{◌≡◌, ◌+◌, ◌<◌, ◌≤◌, IfOk, IsSome, OnOk, OnErr, option_map, length, vec_len, vec_capacity};
 ghost use Rattle.std.specs.Option.{option_copied};
-ghost use Rattle.brisk_syntax.specs.Syntax.{done, ◌then◌};
+ghost use Rattle.brisk_syntax.specs.Syntax.{◌then◌};
 ghost use Rattle.brisk_syntax.specs.Statements.{statement_of, code_of};
 ghost use Rattle.brisk_syntax.specs.Segments.{head_of, rest_of, code_length, statement_at, backwards, or_done};
 

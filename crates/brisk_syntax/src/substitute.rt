@@ -1,3 +1,4 @@
+//! A binder replaced by what it stands for.
 ghost use Rattle.std.specs.Prelude.{◌≡◌, IfOk};
 ghost use Rattle.brisk_syntax.specs.Statements.{statement_of, code_of};
 ghost use Rattle.brisk_syntax.specs.Substitution.{who_with, statement_with, code_with};

@@ -1,6 +1,4 @@
 //! Codes made, changed and compared.
-ghost use Rattle.std.specs.Prelude.{◌<◌, ◌≤◌, length};
-
 use crate::{
     Block, Code, Expr, Exprs, Loop, Names, Stmt, Who, code_from, copy_code, copy_expr, copy_exprs,
     copy_names, same_code, same_expr, subst,
@@ -10,24 +8,17 @@ use std::alloc::Global;
 use std::rc::Rc;
 use std::test::Fail;
 
-fn named(bytes: &[u8]) -> Name
-    requires some { 0 < length bytes.now }
-    requires few { length bytes.now ≤ 64 }
-{
-    Name::new(bytes).unwrap()
-}
-
 // `for u in Us { send T(1) to v; }`, where v is this partner.
 fn turns(alloc: Global, partner: Who) -> Result<Block, Fail> {
     let exprs = Exprs {
         items: vec![in alloc; Expr::Num(1)]?,
     };
     let body = Block {
-        items: vec![in alloc; Stmt::Send(named(b"T"), exprs, partner)]?,
+        items: vec![in alloc; Stmt::Send(Name::of(b"T"), exprs, partner)]?,
     };
     let turns = Loop {
-        binder: named(b"u"),
-        set: named(b"Us"),
+        binder: Name::of(b"u"),
+        set: Name::of(b"Us"),
         turn: 0,
         body: Rc::new(alloc, body)?,
     };
@@ -40,12 +31,12 @@ fn turns(alloc: Global, partner: Who) -> Result<Block, Fail> {
 fn a_binder_is_replaced_in_the_bodies_of_others(rt: HostRuntime) -> Result<(), Fail> {
     let alloc = rt.alloc();
     let member = Who::Pid(Pid {
-        role: named(b"Ws"),
+        role: Name::of(b"Ws"),
         member: 3,
     });
-    let named_v = turns(alloc, Who::Name(named(b"v")))?;
-    let replaced = code_from(alloc, &subst(alloc, &named_v, named(b"v"), member)?)?;
-    let other = code_from(alloc, &subst(alloc, &named_v, named(b"w"), member)?)?;
+    let named_v = turns(alloc, Who::Name(Name::of(b"v")))?;
+    let replaced = code_from(alloc, &subst(alloc, &named_v, Name::of(b"v"), member)?)?;
+    let other = code_from(alloc, &subst(alloc, &named_v, Name::of(b"w"), member)?)?;
     let expected = code_from(alloc, &turns(alloc, member)?)?;
     assert!(rt; same_code(&replaced, &expected));
     assert!(rt; same_code(&other, &code_from(alloc, &named_v)?));
@@ -56,9 +47,9 @@ fn a_binder_is_replaced_in_the_bodies_of_others(rt: HostRuntime) -> Result<(), F
 #[test]
 fn a_copy_is_the_same(rt: HostRuntime) -> Result<(), Fail> {
     let alloc = rt.alloc();
-    let code: Code = code_from(alloc, &turns(alloc, Who::At(named(b"Us")))?)?;
+    let code: Code = code_from(alloc, &turns(alloc, Who::At(Name::of(b"Us")))?)?;
     assert!(rt; same_code(&copy_code(alloc, &code)?, &code));
-    let size = Expr::Size(named(b"Us"));
+    let size = Expr::Size(Name::of(b"Us"));
     assert!(rt; same_expr(&copy_expr(alloc, &size)?, &size));
     let exprs = Exprs {
         items: vec![in alloc; size]?,
@@ -66,11 +57,11 @@ fn a_copy_is_the_same(rt: HostRuntime) -> Result<(), Fail> {
     assert!(rt;
         same_expr(
             &copy_exprs(alloc, &exprs)?.items[0],
-            &Expr::Size(named(b"Us"))
+            &Expr::Size(Name::of(b"Us"))
         )
     );
     let names = Names {
-        items: vec![in alloc; named(b"x"); 2]?,
+        items: vec![in alloc; Name::of(b"x"); 2]?,
     };
     assert_eq!(rt;
         copy_names(alloc, &names)?.items.as_slice(),
@@ -81,7 +72,7 @@ fn a_copy_is_the_same(rt: HostRuntime) -> Result<(), Fail> {
 
 // `x := n;`
 fn assigned(n: u64) -> Stmt {
-    Stmt::Assign(named(b"x"), Expr::Num(n))
+    Stmt::Assign(Name::of(b"x"), Expr::Num(n))
 }
 
 // The number that the statement assigns.

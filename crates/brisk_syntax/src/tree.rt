@@ -1,3 +1,4 @@
+//! Expressions and statements.
 use crate::lists::{Exprs, Names};
 use brisk_values::{Name, Op1, Op2, Pid};
 use std::marker::Model;

@@ -1,7 +1,7 @@
--- The samples are well typed, and no loop of them is begun.
-use Rattle.std.proofs.Common.{◌≡◌, Bool, true, false, [], ◌∷◌, refl}
+-- The samples are well typed.
+use Rattle.std.proofs.Common.{Bool, true, false, [], ◌∷◌, refl}
 use Rattle.brisk_values.specs.declared.value.Kind.TheVariants as kind
-use Rattle.brisk_syntax.specs.WellTyped.{IsProgramWellTyped, IsRoleWellTyped, is_program_unbegun}
+use Rattle.brisk_syntax.specs.WellTyped.{IsProgramWellTyped, IsRoleWellTyped}
 use Rattle.brisk_trace.specs.Sample.{collecting, talk, talker}
 
 waiting_first : (b : Bool) → IsRoleWellTyped (talk b) (talker true (66 ∷ []) (65 ∷ []) (81 ∷ []) (80 ∷ []))
@@ -35,10 +35,6 @@ talk_typed false = record {
     (waiting_first false, tt),
   );
 }
-
-pub talk_unbegun : (b : Bool) → is_program_unbegun (talk b) ≡ true
-talk_unbegun true = refl
-talk_unbegun false = refl
 
 pub collecting_typed : IsProgramWellTyped collecting
 collecting_typed = record {

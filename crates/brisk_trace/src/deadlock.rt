@@ -1,7 +1,7 @@
 //! The schedule of a plain run that deadlocks.
 ghost use Rattle.std.specs.Prelude.{◌≡◌, true, IfOk, MatchOption};
 ghost use Rattle.brisk_syntax.specs.Typing.{each_has_tag};
-ghost use Rattle.brisk_syntax.specs.WellTyped.{IsProgramWellTyped, is_program_unbegun};
+ghost use Rattle.brisk_syntax.specs.WellTyped.{IsProgramWellTyped};
 ghost use Rattle.brisk_instance.specs.Given.{instance_of};
 ghost use Rattle.brisk_async.specs.PlainRuns.{Deadlocks, plain_instance as instance_at, plain_schedule};
 ghost use Rattle.brisk_trace.specs.Plain.{IsPlainSchedule};
@@ -18,7 +18,6 @@ use std::alloc::Global;
 /// before the single roles, from the lowest sender and place; and it ends after 100,000 events at most.
 pub fn to_deadlock(alloc: Global, program: &Program) -> Result<Option<Schedule>, NoMemory>
     requires typed { IsProgramWellTyped program.now }
-    requires unbegun { is_program_unbegun program.now ≡ true }
     requires tagged { each_has_tag program.now.enums ≡ true }
     ensures { let P = program.now in IfOk result (λ o. MatchOption o (¬ Deadlocks P (instance_at P 1) (plain_schedule P 1)) (λ s. IsPlainSchedule P 1 s × Deadlocks P (instance_of s.instance) s.events)) }
 {

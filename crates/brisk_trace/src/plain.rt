@@ -64,18 +64,11 @@ pub fn plain_order(alloc: Global, program: &Program, size: u32) -> Result<Vec<Pi
     Ok(order)
 }
 
-// Whether a channel is declared loose.
-fn is_loose(channels: &Channels, channel: &Name) -> bool
-    ensures { result ≡ is_loose_in channels.now channel.now }
-{
-    channels.items.iter().any(|c| channel == &c.name && c.loose)
-}
-
 // The place that is given on a channel.
 fn place_on(channels: &Channels, channel: &Name) -> Option<u32>
     ensures { result ≡ plain_place (is_loose_in channels.now channel.now) }
 {
-    if is_loose(channels, channel) {
+    if channels.is_loose(channel) {
         Some(0)
     } else {
         None

@@ -1,5 +1,5 @@
 //! Plain runs of small programs.
-ghost use Rattle.std.specs.Prelude.{◌≡◌, ◌<◌, ◌≤◌, length, IfOk};
+ghost use Rattle.std.specs.Prelude.{◌≡◌, IfOk};
 ghost use Rattle.brisk_syntax.specs.Statements.{statement_of};
 ghost use Rattle.brisk_syntax.specs.Texts.{text_of};
 ghost use Rattle.brisk_trace.specs.Sample.{collecting as collecting_text, collector as collector_text, gathers as gather_text, of_number as channel_text, sends as send_text, sends_input as input_text, talk as talk_text, talker as talker_text, waits as wait_text, workers as workers_text};
@@ -16,14 +16,6 @@ use std::alloc::Global;
 use std::rc::Rc;
 use std::test::Fail;
 
-fn named(bytes: &[u8]) -> Name
-    requires some { 0 < length bytes.now }
-    requires few { length bytes.now ≤ 64 }
-    ensures { result ≡ bytes.now }
-{
-    Name::new(bytes).unwrap()
-}
-
 // `send CHANNEL(1) to ROLE;`
 fn send(alloc: Global, channel: Name, role: Name) -> Result<Stmt, Fail>
     ensures { IfOk result (λ s. statement_of s ≡ send_text channel role) }
@@ -39,7 +31,7 @@ fn wait(alloc: Global, channel: Name, role: Name) -> Result<Stmt, Fail>
     ensures { IfOk result (λ s. statement_of s ≡ wait_text channel role) }
 {
     let vars = Names {
-        items: vec![in alloc; named(b"x")]?,
+        items: vec![in alloc; Name::of(b"x")]?,
     };
     Ok(Stmt::Recv(channel, vars, Who::Name(role)))
 }
@@ -67,7 +59,7 @@ fn talker(
         many: false,
         nonempty: false,
         decls: Decls {
-            items: vec![in alloc; Decl::Var(named(b"x"), Kind::Int, Const::Num(false, 0))]?,
+            items: vec![in alloc; Decl::Var(Name::of(b"x"), Kind::Int, Const::Num(false, 0))]?,
         },
         code: Rc::new(alloc, Block { items })?,
     })
@@ -90,23 +82,23 @@ fn channel(alloc: Global, name: Name) -> Result<Channel, Fail>
 fn talk(alloc: Global, crossed: bool) -> Result<Program, Fail>
     ensures { IfOk result (λ p. p ≡ talk_text crossed) }
 {
-    let first = channel(alloc, named(b"P"))?;
-    let second = channel(alloc, named(b"Q"))?;
+    let first = channel(alloc, Name::of(b"P"))?;
+    let second = channel(alloc, Name::of(b"Q"))?;
     let a = talker(
         alloc,
         crossed,
-        named(b"A"),
-        named(b"B"),
-        named(b"P"),
-        named(b"Q"),
+        Name::of(b"A"),
+        Name::of(b"B"),
+        Name::of(b"P"),
+        Name::of(b"Q"),
     )?;
     let b = talker(
         alloc,
         true,
-        named(b"B"),
-        named(b"A"),
-        named(b"Q"),
-        named(b"P"),
+        Name::of(b"B"),
+        Name::of(b"A"),
+        Name::of(b"Q"),
+        Name::of(b"P"),
     )?;
     Ok(Program {
         enums: Enums {
@@ -148,19 +140,19 @@ fn gather(alloc: Global) -> Result<Stmt, Fail>
         items: Vec::new(alloc),
     };
     let receive = Stmt::RecvAny(AnyRecv {
-        channel: named(b"T"),
+        channel: Name::of(b"T"),
         vars: Names {
-            items: vec![in alloc; named(b"x")]?,
+            items: vec![in alloc; Name::of(b"x")]?,
         },
-        binder: named(b"w"),
-        set: named(b"Ws"),
+        binder: Name::of(b"w"),
+        set: Name::of(b"Ws"),
         body: Rc::new(alloc, nothing)?,
     });
     let body = Block {
         items: vec![in alloc; receive]?,
     };
     Ok(Stmt::Repeat(Turns {
-        set: named(b"Ws"),
+        set: Name::of(b"Ws"),
         turn: 0,
         body: Rc::new(alloc, body)?,
     }))
@@ -176,11 +168,11 @@ fn collector(alloc: Global) -> Result<Role, Fail>
         items: vec![in alloc; first, second]?,
     };
     Ok(Role {
-        name: named(b"M"),
+        name: Name::of(b"M"),
         many: false,
         nonempty: false,
         decls: Decls {
-            items: vec![in alloc; Decl::Var(named(b"x"), Kind::Int, Const::Num(false, 0))]?,
+            items: vec![in alloc; Decl::Var(Name::of(b"x"), Kind::Int, Const::Num(false, 0))]?,
         },
         code: Rc::new(alloc, code)?,
     })
@@ -191,9 +183,9 @@ fn send_input(alloc: Global) -> Result<Stmt, Fail>
     ensures { IfOk result (λ s. statement_of s ≡ input_text) }
 {
     let exprs = Exprs {
-        items: vec![in alloc; Expr::Var(named(b"v"))]?,
+        items: vec![in alloc; Expr::Var(Name::of(b"v"))]?,
     };
-    Ok(Stmt::Send(named(b"T"), exprs, Who::Name(named(b"M"))))
+    Ok(Stmt::Send(Name::of(b"T"), exprs, Who::Name(Name::of(b"M"))))
 }
 
 // `many Ws { input v : int; .. }`, each of which sends twice.
@@ -206,11 +198,11 @@ fn workers(alloc: Global) -> Result<Role, Fail>
         items: vec![in alloc; first, second]?,
     };
     Ok(Role {
-        name: named(b"Ws"),
+        name: Name::of(b"Ws"),
         many: true,
         nonempty: false,
         decls: Decls {
-            items: vec![in alloc; Decl::Input(named(b"v"), Kind::Int)]?,
+            items: vec![in alloc; Decl::Input(Name::of(b"v"), Kind::Int)]?,
         },
         code: Rc::new(alloc, code)?,
     })
@@ -220,7 +212,7 @@ fn workers(alloc: Global) -> Result<Role, Fail>
 fn collecting(alloc: Global) -> Result<Program, Fail>
     ensures { IfOk result (λ p. p ≡ collecting_text) }
 {
-    let channel = channel(alloc, named(b"T"))?;
+    let channel = channel(alloc, Name::of(b"T"))?;
     let collector = collector(alloc)?;
     let workers = workers(alloc)?;
     Ok(Program {
@@ -243,7 +235,7 @@ fn overtaking(alloc: Global) -> Result<Option<Schedule>, Fail> {
 
 fn worker(member: u32) -> Pid {
     Pid {
-        role: named(b"Ws"),
+        role: Name::of(b"Ws"),
         member,
     }
 }
@@ -259,7 +251,7 @@ fn by_worker(member: u32) -> Event {
 fn by_collector(sender: Option<Pid>) -> Event {
     Event {
         process: Pid {
-            role: named(b"M"),
+            role: Name::of(b"M"),
             member: 0,
         },
         sender,
@@ -281,11 +273,11 @@ fn the_first_worker_is_taken_twice(rt: HostRuntime) -> Result<(), Fail> {
         by_collector(Some(worker(0))),
     ];
     assert_eq!(rt; schedule.events.items.as_slice(), events.as_slice());
-    let sizes = [(named(b"Ws"), 2)];
+    let sizes = [(Name::of(b"Ws"), 2)];
     assert_eq!(rt; schedule.instance.sizes.items.as_slice(), sizes.as_slice());
     let input = |member| Input {
         process: worker(member),
-        variable: named(b"v"),
+        variable: Name::of(b"v"),
         value: Value::Int(0),
     };
     let inputs = [input(0), input(1)];

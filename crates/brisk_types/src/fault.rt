@@ -1,3 +1,4 @@
+//! Why a program isn't well typed.
 ghost use Rattle.std.specs.Prelude.{◌≡◌};
 ghost use Rattle.brisk_types.specs.Failures as spec;
 ghost use Rattle.brisk_types.specs.declared.fault.TypeFault.TheVariants.{NoMemory as OutOfMemory};

@@ -3,7 +3,6 @@ ghost use Rattle.std.specs.Prelude.{◌≡◌, option_map, OnOk};
 ghost use Rattle.brisk_syntax.specs.Expressions.{expression_of};
 ghost use Rattle.brisk_syntax.specs.Declarations as declared;
 ghost use Rattle.brisk_syntax.specs.Typing as typing;
-ghost use Rattle.brisk_values.specs.Values as values;
 ghost use Rattle.brisk_types.specs.Expressions as spec;
 ghost use Rattle.brisk_types.specs.Names.{global_meaning, known_enum, known_set, known_single, known_tag, meaning_of};
 ghost use Rattle.brisk_types.specs.Declarations as declarations;
@@ -12,7 +11,7 @@ ghost use Rattle.brisk_types.specs.Statements as statements;
 use crate::fault::Rule;
 use crate::index::{Index, Key, TagKey};
 use brisk_syntax::{Decl, Expr, Kinds, Who};
-use brisk_values::{Kind, Name, NoMemory, Op1, Op2};
+use brisk_values::{Kind, Name, NoMemory, Op1, Op2, same_kind};
 use std::alloc::Global;
 
 /// What is known everywhere in a program.
@@ -48,16 +47,6 @@ pub fn is_among(names: &[Name], name: &Name) -> bool
     ensures { result ≡ typing.is_among names.now name.now }
 {
     names.iter().any(|other| name == other)
-}
-
-pub fn same_kind(a: &Kind, b: &Kind) -> bool
-    ensures { result ≡ values.same_kind a.now b.now }
-{
-    match (a, b) {
-        (Kind::Int, Kind::Int) | (Kind::Bool, Kind::Bool) => true,
-        (Kind::Enum(e), Kind::Enum(f)) => e == f,
-        _ => false,
-    }
 }
 
 /// Whether both kinds are known and are two.

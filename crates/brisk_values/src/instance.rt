@@ -1,3 +1,4 @@
+//! Instances: the sizes of sets and the values of inputs.
 use crate::name::Name;
 use crate::value::{Pid, Value};
 use std::marker::Model;

@@ -2,6 +2,7 @@
 #![tactic(auto)]
 
 mod instance;
+mod lists;
 mod memory;
 mod name;
 mod operation;
@@ -9,8 +10,9 @@ mod store;
 mod value;
 
 pub use instance::{Input, Inputs, Instance, Sizes};
+pub use lists::Values;
 pub use memory::NoMemory;
 pub use name::{Name, same_name};
 pub use operation::{Op1, Op2, apply1, apply2, wrap};
 pub use store::Store;
-pub use value::{Kind, Pid, Value, kind_of};
+pub use value::{Kind, Pid, Value, kind_of, same_kind};

@@ -1,4 +1,5 @@
-ghost use Rattle.std.specs.Prelude.{◌≡◌, ◌++◌, ◌-◌, replicate, ◌<◌, ◌≤◌, ℕ, length, IsTrue, ◌↔◌, MatchOption, ◌⊎◌, ◌==◌, false};
+//! Names.
+ghost use Rattle.std.specs.Prelude.{◌≡◌, ◌++◌, ◌-◌, replicate, ◌<◌, ◌≤◌, ℕ, length, IsTrue, ◌↔◌, MatchOption, ◌⊎◌, ◌==◌};
 ghost use Rattle.std.proofs.Common.{rules};
 ghost use Rattle.std.specs.Cmp.{partial_order_from_own_ties, partial_equiv_from_equiv};
 ghost use Rattle.std.specs.Cmp.Rules.{comparing};
@@ -36,7 +37,19 @@ impl Model for Name {
 }
 
 impl Name {
-    /// The name with these bytes. Whether they are text isn't looked at.
+    /// The name with these bytes, of which there are 1 to 64. Whether they are text isn't looked at.
+    pub fn of(bytes: &[u8]) -> Name
+        requires some { 0 < length bytes.now }
+        requires few { length bytes.now ≤ 64 }
+        ensures { result ≡ bytes.now }
+    {
+        Name {
+            padded: padded_of(bytes),
+            len: bytes.len(),
+        }
+    }
+
+    /// The same for any bytes.
     pub fn new(bytes: &[u8]) -> Option<Name>
         ensures { MatchOption result ((length bytes.now ≡ 0) ⊎ (64 < length bytes.now)) (λ n. (n ≡ bytes.now) × (0 < length bytes.now) × (length bytes.now ≤ 64)) }
     {
@@ -44,8 +57,7 @@ impl Name {
         if len == 0 || len > 64 {
             return None;
         }
-        let padded = padded_of(bytes);
-        Some(Name { padded, len })
+        Some(Name::of(bytes))
     }
 
     /// The bytes of the name.

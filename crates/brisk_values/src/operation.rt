@@ -1,15 +1,18 @@
+//! Operators, and what they give.
 ghost use Rattle.std.specs.Prelude.{◌≡◌};
 ghost use Rattle.brisk_values.specs.Values.{wrapped};
 ghost use Rattle.brisk_values.specs.Operations.{applied1, applied2};
 
 use crate::value::{Value, kind_of};
 
+/// An operator of one operand.
 #[derive(Clone, Copy, Debug, PartialEq, Eq)]
 pub enum Op1 {
     Neg,
     Not,
 }
 
+/// An operator of two operands.
 #[derive(Clone, Copy, Debug, PartialEq, Eq)]
 pub enum Op2 {
     Add,
@@ -33,7 +36,7 @@ pub fn wrap(n: i128) -> i64
     low.cast_signed()
 }
 
-/// An operand of the wrong kind gives `Bool(false)`.
+/// What an operator gives. An operand of the wrong kind gives `Bool(false)`.
 pub fn apply1(op: Op1, a: &Value) -> Value
     ensures { result ≡ applied1 op a.now }
 {
@@ -44,7 +47,7 @@ pub fn apply1(op: Op1, a: &Value) -> Value
     }
 }
 
-/// Arithmetic wraps. An operand of the wrong kind gives `Bool(false)`.
+/// What an operator gives. Arithmetic wraps. An operand of the wrong kind gives `Bool(false)`.
 pub fn apply2(op: Op2, a: &Value, b: &Value) -> Value
     ensures { result ≡ applied2 op a.now b.now }
 {

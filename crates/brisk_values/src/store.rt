@@ -1,3 +1,4 @@
+//! Stores: the value of each variable of each process.
 ghost use Rattle.std.specs.Prelude.{◌≡◌, IfOk, OnOk, OnErr, IsOk, IsSome};
 ghost use Rattle.std.specs.FinMap as map;
 
@@ -70,13 +71,13 @@ mod tests {
 
     fn process() -> Pid {
         Pid {
-            role: Name::new(b"Ws").unwrap(),
+            role: Name::of(b"Ws"),
             member: 3,
         }
     }
 
     fn variable() -> Name {
-        Name::new(b"x").unwrap()
+        Name::of(b"x")
     }
 
     #[test]

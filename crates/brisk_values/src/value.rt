@@ -1,5 +1,6 @@
+//! Values, their kinds, and processes.
 ghost use Rattle.std.specs.Prelude.{◌≡◌};
-ghost use Rattle.brisk_values.specs.Values.{kind_of as kind_of_value};
+ghost use Rattle.brisk_values.specs.Values.{kind_of as kind_of_value, same_kind as same_kind_of};
 
 use crate::name::Name;
 
@@ -12,6 +13,7 @@ pub enum Value {
     Tag(Name, Name),
 }
 
+/// Which values a variable may hold.
 #[derive(Clone, Copy, Debug, PartialEq, Eq)]
 pub enum Kind {
     Int,
@@ -26,6 +28,18 @@ pub struct Pid {
     pub member: u32,
 }
 
+/// Whether two kinds are the same: `==`, with its meaning as a clause.
+pub fn same_kind(a: &Kind, b: &Kind) -> bool
+    ensures { result ≡ same_kind_of a.now b.now }
+{
+    match (a, b) {
+        (Kind::Int, Kind::Int) | (Kind::Bool, Kind::Bool) => true,
+        (Kind::Enum(e), Kind::Enum(f)) => e == f,
+        _ => false,
+    }
+}
+
+/// The kind of a value.
 pub fn kind_of(value: &Value) -> Kind
     ensures { result ≡ kind_of_value value.now }
 {

@@ -1,4 +1,4 @@
-use Rattle.std.proofs.Common.{◌≡◌, ◌<◌, ◌≤◌, ℕ, false, get_or, length}
+use Rattle.std.proofs.Common.{◌≡◌, ◌<◌, ℕ, false, get_or}
 use Rattle.brisk_values.specs.Names.{same_name}
 use Rattle.brisk_syntax.specs.declared.program.Channel.{Channel}
 use Rattle.brisk_async.proofs.queue.channel_place.Given as goal

@@ -1,4 +1,4 @@
-use Rattle.std.proofs.Common.{◌≡◌, false, ap, sym, subst, refl, ◌∙◌, Option, Some, None}
+use Rattle.std.proofs.Common.{◌≡◌, false, sym, subst, ◌∙◌, Option, Some, None}
 use Rattle.std.specs.FinMap as map
 use Rattle.std.specs.Prelude.{is_none, IfSome, IsSome, IsTrue, ◌↔◌}
 use Rattle.brisk_async.specs.declared.event.Event.{Event}

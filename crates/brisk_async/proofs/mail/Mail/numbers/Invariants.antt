@@ -1,6 +1,3 @@
-use Rattle.std.proofs.Common.{◌≡◌, ◌<◌, length, None, IsSome}
-use Rattle.std.specs.BTreeMap.{get, is_at}
-use Rattle.std.specs.Map.{lookup}
 use Rattle.brisk_async.specs.Keys.{mail_in}
 use Rattle.brisk_async.proofs.Ranked.{Holds}
 use Rattle.brisk_async.proofs.mail.Mail.numbers.Given as goal

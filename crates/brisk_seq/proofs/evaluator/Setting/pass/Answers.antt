@@ -12,4 +12,4 @@ returns c =
     passes c.args.self.now.choices.now old c.saturating_add-run.result c.saturating_add-run.ensures (who pass.to) pass.vars
     (λ r. values_at (given_in c.args.self.now) r (who pass.from) pass.exprs) c.in_ok-values.values c.store_all.new.store
     (λ n. c.in_ok-values.ensures ∙ ap (λ p. values_at (given_in c.args.self.now) (run_of c.args.self.now.choices.now n old) p pass.exprs) c.process-from.ensures)
-    (c.in_ok-store_all.ensures ∙ ap (λ p. stored (value_in old.store) p pass.vars c.in_ok-values.values) c.process-to.ensures)
+    (c.in_ok-store_all.ensures.ok ∙ ap (λ p. stored (value_in old.store) p pass.vars c.in_ok-values.values) c.process-to.ensures)

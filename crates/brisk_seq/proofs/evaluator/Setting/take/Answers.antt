@@ -34,5 +34,5 @@ returns-clause-goes c =
     takes c.args.self.now.choices.now old c.saturating_add-run.result c.saturating_add-run.ensures ((given_in c.args.self.now).kind (who take.to).role) k take.vars
     c.in-Some.values c.store_all.new.store c.take.new.self (c.in-Some.ensures.values ∙ ap (get old.boxes) (sym same))
     (ap (λ (z : Cell). are_of_kinds ((given_in c.args.self.now).kind z.to.role) take.vars c.in-Some.values) same ∙ sym c.are_of_kinds.ensures ∙ c.if-not-are_of_kinds.false)
-    (c.in_ok-store_all.ensures ∙ ap (λ (z : Cell). stored (value_in old.store) z.to take.vars c.in-Some.values) (sym same))
+    (c.in_ok-store_all.ensures.ok ∙ ap (λ (z : Cell). stored (value_in old.store) z.to take.vars c.in-Some.values) (sym same))
     (c.in-Some.ensures.empty ∙ ap (λ z. without_full z old.boxes) (sym same))

@@ -12,7 +12,7 @@ use Rattle.brisk_values.specs.Places.{Entries, place_cmp, value_in}
 use Rattle.brisk_values.proofs.Changes.{changed-same, changed_again, exact_process, process_laws}
 use Rattle.brisk_values.proofs.Entries.{place_total}
 use Rattle.brisk_values.proofs.Stores.{one_variable}
-use Rattle.brisk_async.specs.There.{AreThere}
+use Rattle.brisk_syntax.specs.There.{AreThere}
 use Rattle.brisk_syntax.specs.Stores.{Store, stored, with_variables}
 
 -- nothing is stored

@@ -1,8 +1,8 @@
 use Rattle.std.proofs.Common.{◌≡◌, drop}
 use Rattle.brisk_values.specs.Places.{value_in}
 use Rattle.brisk_syntax.specs.Stores.{stored}
-use Rattle.brisk_async.specs.There.{AreThere}
-use Rattle.brisk_async.proofs.changes.store_there.Given as goal
+use Rattle.brisk_syntax.specs.There.{AreThere}
+use Rattle.brisk_syntax.proofs.stores.store_there.Given as goal
 
 abbrev pub invariant-loop-i : goal.invariant-loop-i
 invariant-loop-i l = record {

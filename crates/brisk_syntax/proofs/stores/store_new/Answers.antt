@@ -1,8 +1,8 @@
 use Rattle.std.proofs.Common.{◌+◌, drop, arith, ap, sym, ◌∙◌}
 use Rattle.brisk_values.specs.Places.{value_in}
 use Rattle.brisk_syntax.specs.Stores.{stored}
-use Rattle.brisk_async.proofs.Changed.{stored_past, stored_step}
-use Rattle.brisk_async.proofs.changes.store_new.Goals as goal
+use Rattle.brisk_syntax.proofs.Storing.{stored_past, stored_step}
+use Rattle.brisk_syntax.proofs.stores.store_new.Goals as goal
 
 pub loop-i-preserved : goal.loop-i-preserved
 loop-i-preserved c =

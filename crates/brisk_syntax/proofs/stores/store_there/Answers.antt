@@ -1,9 +1,9 @@
 use Rattle.std.proofs.Common.{◌+◌, drop, arith, ap, subst, sym, ◌∙◌}
 use Rattle.brisk_values.specs.Places.{Entries, value_in}
 use Rattle.brisk_syntax.specs.Stores.{stored}
-use Rattle.brisk_async.specs.There.{AreThere}
-use Rattle.brisk_async.proofs.Changed.{still_there, stored_past, stored_step}
-use Rattle.brisk_async.proofs.changes.store_there.Goals as goal
+use Rattle.brisk_syntax.specs.There.{AreThere}
+use Rattle.brisk_syntax.proofs.Storing.{still_there, stored_past, stored_step}
+use Rattle.brisk_syntax.proofs.stores.store_there.Goals as goal
 
 pub loop-i-preserved : goal.loop-i-preserved
 loop-i-preserved c =

@@ -24,13 +24,15 @@ use Rattle.brisk_state.specs.Symbolic.{Symbolic, thread_named, active_code, part
 use Rattle.brisk_basic.specs.declared.rule.RuleFault.{RuleFault}
 use Rattle.brisk_basic.specs.Basic.{Applied, apply, at_thread, assign, pass, sends, receives}
 use Rattle.brisk_basic.specs.Outcomes.{and_then, told_as}
-use Rattle.brisk_derivtext.specs.declared.steps.BasicStep.{BasicStep}
-use Rattle.brisk_derivtext.specs.declared.steps.BasicStep.TheVariants as basic
-use Rattle.brisk_derivtext.specs.Steps.{Basic, Steps, no_steps, ◌▷◌}
-use Rattle.brisk_loops.specs.declared.why.Why.TheVariants.{Rule}
-use Rattle.brisk_loops.specs.Faithful.{Faithful}
-use Rattle.brisk_loops.proofs.Top.{sound}
-use Rattle.brisk_loops.specs.Derives.{Derived, Failure, derive_all, told_at, first_unfinished, finish, unless_unfinished, items_in, rule_of, Derivable, sequential}
+use Rattle.brisk_derivation.specs.declared.steps.BasicStep.{BasicStep}
+use Rattle.brisk_derivation.specs.declared.steps.BasicStep.TheVariants as basic
+use Rattle.brisk_derivation.specs.Steps.{Basic, Steps, no_steps, ◌▷◌}
+use Rattle.brisk_rules.specs.declared.why.Why.TheVariants.{Rule}
+use Rattle.brisk_rules.specs.Faithful.{Faithful}
+use Rattle.brisk_rules.specs.Following.{nothing_follows}
+use Rattle.brisk_sound.proofs.Strict.{IsStrict, none_loose, strict_step}
+use Rattle.brisk_sound.proofs.Top.{sound}
+use Rattle.brisk_rules.specs.Derives.{Derived, Failure, derive_all, told_at, first_unfinished, finish, unless_unfinished, items_in, rule_of, Derivable, sequential}
 use Rattle.brisk_cli.specs.Fragment.{in_fragment, is_plain_role, all_plain}
 use Rattle.brisk_cli.specs.Rewriting.{Done, done_at, start, statement_at, next, one_done, name_at, place_from, place_of, passed, by_head, step, Leads, stays, goes_on, IsFinished, Sequenced}
 
@@ -250,13 +252,13 @@ record Derives_to (P : Program) (roles : List RoleText) (S : Symbolic) (q : Item
   line : ℕ
   long : length e ≡ length roles
   steps : Steps → Steps
-  derives : (rest : Steps) → derive_all P 0 (steps rest) 2 S ≡ behind q (derive_all P 0 rest line (at roles e facts))
+  derives : (rest : Steps) → derive_all P 0 nothing_follows (steps rest) 2 S ≡ behind q (derive_all P 0 nothing_follows rest line (at roles e facts))
 
-all_lead : (P : Program) (roles : List RoleText) → are_distinct (names roles) ≡ true → (d : Done) (F : Facts) → length d ≡ length roles → (q : Items) (e : Done) → Leads roles d q e → Derives_to P roles (at roles d F) q e
-all_lead P roles distinct d F same _ _ stays =
-    record { facts = F; line = 2; long = same; steps = λ rest. rest; derives = λ rest. sym (behind_nothing (derive_all P 0 rest 2 (at roles d F))) }
-all_lead P roles distinct d F same _ _ (goes_on q e f i one so_far more) =
-    let x = all_lead P roles distinct d F same q e so_far in
+all_lead : (P : Program) → IsStrict P → (roles : List RoleText) → are_distinct (names roles) ≡ true → (d : Done) (F : Facts) → length d ≡ length roles → (q : Items) (e : Done) → Leads roles d q e → Derives_to P roles (at roles d F) q e
+all_lead P strict roles distinct d F same _ _ stays =
+    record { facts = F; line = 2; long = same; steps = λ rest. rest; derives = λ rest. sym (behind_nothing (derive_all P 0 nothing_follows rest 2 (at roles d F))) }
+all_lead P strict roles distinct d F same _ _ (goes_on q e f i one so_far more) =
+    let x = all_lead P strict roles distinct d F same q e so_far in
     let m = step_made roles distinct e x.facts x.long i one f more in record {
       facts = m.facts;
       line = x.line + 1;
@@ -264,8 +266,9 @@ all_lead P roles distinct d F same _ _ (goes_on q e f i one so_far more) =
       steps = λ rest. x.steps (Basic m.by ▷ rest);
       derives = λ rest.
           x.derives (Basic m.by ▷ rest)
-          ∙ (λ j. behind q (and_then (derived_by x.line (m.applies j)) (λ y. and_then (derive_all P 0 rest y.line y.state) (λ z. Ok record z { items = y.items followed_by z.items }))))
-          ∙ behind_one q one (derive_all P 0 rest (x.line + 1) (at roles f m.facts));
+          ∙ (λ j. behind q (and_then (strict_step P strict nothing_follows x.line (at roles e x.facts) (rule_of m.by) j) (λ y. and_then (derive_all P 0 nothing_follows rest y.line y.state) (λ z. Ok record z { items = y.items followed_by z.items }))))
+          ∙ (λ j. behind q (and_then (derived_by x.line (m.applies j)) (λ y. and_then (derive_all P 0 nothing_follows rest y.line y.state) (λ z. Ok record z { items = y.items followed_by z.items }))))
+          ∙ behind_one q one (derive_all P 0 nothing_follows rest (x.line + 1) (at roles f m.facts));
     }
 
 -- where no role has a next statement, no thread has code
@@ -290,19 +293,20 @@ distinct_back : (xs ys : List Name) → are_distinct (xs ++ ys) ≡ true → are
 distinct_back [] ys h = h
 distinct_back (x ∷ xs) ys h = distinct_back xs ys (both (not (is_among (xs ++ ys) x)) (are_distinct (xs ++ ys)) h).1
 
-none_loose : (channels : List Channel) → list_all (λ c. not c.loose) channels ≡ true → not (list_any (λ c. c.loose) channels) ≡ true
-none_loose [] h = refl
-none_loose (c ∷ cs) h =
-    let x = both (not c.loose) (list_all (λ c. not c.loose) cs) h in (λ j. not (no c.loose x.0 j || list_any (λ c. c.loose) cs)) ∙ none_loose cs x.1
+all_strict : (channels : List Channel) → list_all (λ c. not c.loose) channels ≡ true → not (list_any (λ c. c.loose) channels) ≡ true
+all_strict [] h = refl
+all_strict (c ∷ cs) h =
+    let x = both (not c.loose) (list_all (λ c. not c.loose) cs) h in (λ j. not (no c.loose x.0 j || list_any (λ c. c.loose) cs)) ∙ all_strict cs x.1
 
 -- what steps give from the start to the end is the program of a valid derivation
 pub derivable : (P : Program) (Q : SeqProgram) → IsProgramWellTyped P → in_fragment P ≡ true → Sequenced P Q → Derivable P Q
 derivable P Q typed fragment s =
     let parts = both (list_all (λ c. not c.loose) P.channels) (list_all is_plain_role P.roles) fragment in
+    let strict = none_loose P.channels (all_strict P.channels parts.0) in
     let distinct = distinct_back (map (λ e. e.name) P.enums ++ map (λ c. c.name) P.channels) (names P.roles) typed.names in
-    let x = all_lead P P.roles distinct (start P.roles) (all_first_facts P.roles) (start_long P.roles) Q.body s.finishes.end s.finishes.leads in (
+    let x = all_lead P strict P.roles distinct (start P.roles) (all_first_facts P.roles) (start_long P.roles) Q.body s.finishes.end s.finishes.leads in (
       x.steps no_steps,
-      (λ j. and_then (derive_all P 0 (x.steps no_steps) 2 record { threads = first_standing P.roles parts.1 j; pending = []; facts = all_first_facts P.roles }) (finish P))
+      (λ j. and_then (derive_all P 0 nothing_follows (x.steps no_steps) 2 record { threads = first_standing P.roles parts.1 j; pending = []; facts = all_first_facts P.roles }) (finish P))
           ∙ (λ j. and_then (x.derives no_steps j) (finish P))
           ∙ (λ j. unless_unfinished x.line (all_finished P.roles s.finishes.end x.long s.finishes.finished j) (sequential P (Q.body followed_by nothing)))
           ∙ (λ j. Ok record { enums = sym s.enums j; roles = sym s.roles j; body = followed_by-nothing Q.body j }),
@@ -312,4 +316,4 @@ derivable P Q typed fragment s =
 pub faithful : (P : Program) (Q : SeqProgram) → IsProgramWellTyped P → in_fragment P ≡ true → Sequenced P Q → Faithful P Q
 faithful P Q typed fragment s =
     let x = derivable P Q typed fragment s in
-    sound P x.0 Q typed (none_loose P.channels (both (list_all (λ c. not c.loose) P.channels) (list_all is_plain_role P.roles) fragment).0) x.1
+    sound P x.0 Q typed x.1

@@ -8,7 +8,7 @@ use Rattle.brisk_print.specs.Layout as layout
 use Rattle.brisk_syntax.specs.declared.program.Program.{Program}
 use Rattle.brisk_syntax.specs.WellTyped.{IsProgramWellTyped}
 use Rattle.brisk_seq.specs.declared.tree.SeqProgram.{SeqProgram}
-use Rattle.brisk_loops.specs.Faithful.{Faithful}
+use Rattle.brisk_rules.specs.Faithful.{Faithful}
 use Rattle.brisk_cli.specs.declared.status.Status.{Status}
 use Rattle.brisk_cli.specs.declared.status.Status.TheVariants.{Done}
 use Rattle.brisk_cli.specs.Commands.{Rewrite, command_of}

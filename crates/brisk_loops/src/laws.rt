@@ -1,30 +1,29 @@
-//! The laws of the rules. The functions do nothing.
+//! The laws of walks. The functions do nothing.
 
-ghost use Rattle.brisk_loops.specs.Does.{EndsAreDone};
-ghost use Rattle.brisk_loops.specs.Laws.{NoBadBox, UnfoldingReachesTheStore, ValidIsFaithful, ValidIsWellTyped};
+ghost use Rattle.brisk_loops.specs.WalkKept.{KeptDerives};
+ghost use Rattle.brisk_loops.specs.WalkLaws.{BackUndoes, WalkApplies, WalkDerives, WalkIsValid};
 
-/// Soundness: the sequential program of each valid derivation does what the processes do, for every size and all inputs.
-pub fn valid_is_faithful()
-    ensures { ValidIsFaithful }
+/// The calls of a derivation, made in order on a walk, give its sequential program, or what fails first at the same line.
+pub fn walk_derives()
+    ensures { WalkDerives }
 {}
 
-/// The sequential program of each valid derivation of a well-typed program is well typed.
-pub fn valid_is_well_typed()
-    ensures { ValidIsWellTyped }
+/// They apply as many rules as the derivation has steps.
+pub fn walk_applies()
+    ensures { WalkApplies }
 {}
 
-/// The canonical schedule of a valid derivation leads to a halted state, with the store that the sequential program gives on
-/// the same choices. So each store with which the program halts has a schedule that anyone can run.
-pub fn unfolding_reaches_the_store()
-    ensures { UnfoldingReachesTheStore }
+/// Giving up a rule that was entered, after steps in it, undoes what was done since.
+pub fn back_undoes()
+    ensures { BackUndoes }
 {}
 
-/// The sequential program of a valid derivation never stops at a box.
-pub fn no_bad_box()
-    ensures { NoBadBox }
+/// A walk that comes to its end, by whatever calls, has the sequential program of a valid derivation.
+pub fn walk_is_valid()
+    ensures { WalkIsValid }
 {}
 
-/// The stores with which a sequential program halts are those to which its items can lead, whatever the choices.
-pub fn ends_are_done()
-    ensures { EndsAreDone }
+/// The same of walks whose numbers stay at the greatest `u64` where they would pass it.
+pub fn kept_derives()
+    ensures { KeptDerives }
 {}

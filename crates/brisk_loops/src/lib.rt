@@ -1,10 +1,20 @@
-//! When a sequential program does what processes do, and the rules by which it is derived.
+//! The rules in code: a walk that applies them one by one, and whether a derivation is valid.
 #![tactic(auto)]
 
+mod acceptance;
+mod close;
+mod copies;
+mod enter;
+mod fault;
+mod heads;
 mod laws;
-mod small_programs;
-mod why;
+mod leave;
+mod rest;
+mod rule;
+mod walk;
 
-pub use laws::{ends_are_done, valid_is_faithful, valid_is_well_typed};
-pub use small_programs::{derivations, examples};
-pub use why::Why;
+pub use acceptance::accept;
+pub use brisk_rules::Why;
+pub use fault::AcceptFault;
+pub use laws::{back_undoes, kept_derives, walk_applies, walk_derives, walk_is_valid};
+pub use walk::{Walk, rule_of};

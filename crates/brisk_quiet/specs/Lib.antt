@@ -1,3 +1,4 @@
 pub mod Left
 pub mod Quiet
 pub mod Sample
+pub mod Sender

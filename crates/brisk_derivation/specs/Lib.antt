@@ -1,0 +1,11 @@
+pub mod Counts
+pub mod Depths
+pub mod Falls
+pub mod Reports
+pub mod Seen
+pub mod Steps
+pub mod Stored
+pub mod TriesDepths
+pub mod TriesFalls
+pub mod TriesSeen
+pub mod TriesStored

@@ -1,5 +1,0 @@
-use Rattle.brisk_loops.proofs.Link.{ends_done}
-use Rattle.brisk_loops.proofs.laws.ends_are_done.Goals as goal
-
-pub returns : goal.returns
-returns c = ends_done

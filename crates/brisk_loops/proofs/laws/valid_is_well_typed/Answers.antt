@@ -1,5 +1,0 @@
-use Rattle.brisk_loops.proofs.ItemsTyped.{well_typed}
-use Rattle.brisk_loops.proofs.laws.valid_is_well_typed.Goals as goal
-
-pub returns : goal.returns
-returns c = well_typed

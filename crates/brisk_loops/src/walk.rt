@@ -1,0 +1,312 @@
+//! A walk: the rules of a derivation, applied one by one.
+ghost use Rattle.std.specs.Prelude.{◌≡◌, ◌≢◌, ◌<◌, true, [], IfOk, IfErr, Ok as okay, OnErr, option_map, vec_capacity, vec_len};
+ghost use Rattle.brisk_seq.specs.Items.{◌followed_by◌};
+ghost use Rattle.brisk_seq.specs.Seen.{item_of, items_of};
+ghost use Rattle.brisk_syntax.specs.Classes.{has_no_loose};
+ghost use Rattle.brisk_syntax.specs.WellTyped.{IsProgramWellTyped};
+ghost use Rattle.brisk_derivation.specs.Seen.{step_of};
+ghost use Rattle.brisk_loops.specs.Walk.{back as given_up, basic as applied_by, enter as entered_by, finish as finished_by, leave as left_by, other as other_of, rewind as rewound, start};
+ghost use Rattle.brisk_rules.specs.Derives.{first_unfinished as unfinished_in, items_in, rule_of as rule_by};
+ghost use Rattle.brisk_loops.specs.WalkSeen.{Fails, Gives};
+ghost use Rattle.brisk_loops.specs.declared.rule.Side.TheVariants.{Second as second};
+
+use crate::copies::{copy_body, declared};
+use crate::enter::{alone, second_start, start_of, told};
+use crate::fault::AcceptFault;
+use crate::rest::has_code;
+use crate::rule::{Rule, Side};
+use brisk_rules::Why;
+use brisk_async::copy_program;
+use brisk_basic::{Basic, apply};
+use brisk_derivation::{BasicStep, SideFault, Step};
+use brisk_seq::{Body, Seq, SeqProgram};
+use brisk_state::{State, Thread};
+use brisk_syntax::Program;
+use brisk_values::{Name, NoMemory};
+use std::alloc::Global;
+use std::marker::Model;
+use std::mem;
+
+/// The rules of a derivation, applied one by one.
+#[derive(Drop)]
+pub struct Walk {
+    alloc: Global,
+    program: Program,
+    state: State,
+    items: Body,
+    // The innermost rule is the last.
+    rules: Vec<Rule>,
+    applied: u64,
+    counted: u64,
+}
+
+impl Model for Walk {
+    ghost use Rattle.std.specs.Prelude.{◌≡◌, true};
+    ghost use Rattle.brisk_syntax.specs.Classes.{has_no_loose};
+    ghost use Rattle.brisk_loops.specs.Walk.{Walked};
+    ghost use Rattle.brisk_loops.specs.WalkStored.{coded_walked};
+    ghost use Rattle.brisk_rules.specs.Derives.{items_in, rule_of as rule_by};
+    ghost use Rattle.brisk_loops.specs.WalkSeen.{AreEntered, opened_by};
+
+    ghost Value = { Walked };
+
+    ghost coded = { coded_walked };
+
+    ghost view = { λ w. record { program = w.program; state = w.state; items = w.items; entered = opened_by w.program w.rules.items; applied = w.applied; counted = w.counted } };
+
+    ghost invariant = { λ w. AreEntered w.program w.rules.items × (has_no_loose w.program ≡ true) };
+}
+
+impl Walk {
+    /// A walk that begins. The tests for loose channels are to be written: no channel is loose.
+    pub fn start(alloc: Global, program: Program) -> Result<Walk, NoMemory>
+        requires typed { IsProgramWellTyped program }
+        requires strict { has_no_loose program ≡ true }
+        ensures { IfOk result (λ w. w ≡ start program) }
+    {
+        let state = State::initial(alloc, &program)?;
+        Ok(Walk {
+            alloc,
+            program,
+            state,
+            items: Body {
+                items: Vec::new(alloc),
+            },
+            rules: Vec::new(alloc),
+            applied: 0,
+            counted: 0,
+        })
+    }
+
+    /// The present state.
+    pub fn state(&self) -> &State
+        ensures { result.now ≡ self.now.state }
+    {
+        &self.state
+    }
+
+    /// The program.
+    pub fn program(&self) -> &Program
+        ensures { result.now ≡ self.now.program }
+    {
+        &self.program
+    }
+
+    /// How many rules are entered.
+    pub fn depth(&self) -> usize {
+        self.rules.len()
+    }
+
+    /// The state before a rule was entered, where this many rules stood around it.
+    pub fn before(&self, depth: usize) -> Option<&State> {
+        match self.rules.get(depth) {
+            None => None,
+            Some(rule) => Some(&rule.state),
+        }
+    }
+
+    /// The state at the end of the first side, in the second side of a branch.
+    pub fn first_end(&self) -> Option<&State> {
+        match self.rules.last() {
+            Some(Rule { side: Side::Second(state, _), .. }) => Some(state),
+            _ => None,
+        }
+    }
+
+    /// The number of rules applied.
+    pub fn applied(&self) -> u64
+        ensures { result ≡ self.now.applied }
+    {
+        self.applied
+    }
+
+    /// Gives up the innermost rule.
+    pub fn back(&mut self)
+        requires { self.old.entered ≢ [] }
+        ensures { self.new ≡ given_up self.old }
+    {
+        if let Some(rule) = self.rules.pop() {
+            self.state = rule.state;
+            self.items = rule.items;
+            self.counted = rule.counted;
+        }
+    }
+
+    /// Goes back to the start. The number of rules applied stays.
+    pub fn rewind(&mut self) -> Result<(), NoMemory>
+        requires { IsProgramWellTyped self.old.program }
+        ensures ok { IfOk result (λ _. self.new ≡ rewound self.old) }
+        ensures err { OnErr result (self.new ≡ self.old) }
+    {
+        let state = State::initial(self.alloc, &self.program)?;
+        self.state = state;
+        self.items = Body {
+            items: Vec::new(self.alloc),
+        };
+        self.rules = Vec::new(self.alloc);
+        self.counted = 0;
+        Ok(())
+    }
+
+    /// Applies a basic rule. Where a test fails, or there is no memory, nothing changes.
+    pub fn basic(&mut self, step: &BasicStep) -> Result<(), AcceptFault>
+        ensures ok { IfOk result (λ _. Gives (applied_by self.old step.now) self.new) }
+        ensures err { OnErr result (self.new ≡ self.old) }
+        ensures cause { IfErr result (λ f. Fails (applied_by self.old step.now) f) }
+    {
+        if self.items.items.reserve(1).is_err() {
+            return Err(AcceptFault::NoMemory);
+        }
+        match apply(self.alloc, &mut self.state, &rule_of(step)) {
+            Err(why) => Err(told(self.counted, why)),
+            Ok(statement) => {
+                add(&mut self.items.items, statement);
+                self.applied = self.applied.saturating_add(1);
+                self.counted = self.counted.saturating_add(1);
+                Ok(())
+            }
+        }
+    }
+
+    /// Enters a rule, whose own steps are ignored. Where a test fails, or there is no memory, nothing changes. It costs one
+    /// copy of the state.
+    pub fn enter(&mut self, step: &Step) -> Result<(), AcceptFault>
+        ensures ok { IfOk result (λ _. Gives (entered_by self.old (step_of step.now)) self.new) }
+        ensures err { OnErr result (self.new ≡ self.old) }
+        ensures cause { IfErr result (λ f. Fails (entered_by self.old (step_of step.now)) f) }
+    {
+        let deep = self.rules.len();
+        let start = start_of(
+            self.alloc,
+            &self.program,
+            &self.state,
+            step,
+            deep,
+            self.counted,
+        )?;
+        let step = alone(self.alloc, step)?;
+        if self.rules.reserve(1).is_err() {
+            return Err(AcceptFault::NoMemory);
+        }
+        let state = mem::replace(&mut self.state, start);
+        let none = Body {
+            items: Vec::new(self.alloc),
+        };
+        let items = mem::replace(&mut self.items, none);
+        self.rules.push_reserved(Rule {
+            step,
+            side: Side::First,
+            state,
+            items,
+            counted: self.counted,
+        });
+        self.counted = self.counted.saturating_add(1);
+        Ok(())
+    }
+
+    /// Passes to the second side of a branch. Where there is no memory, nothing changes.
+    pub fn other(&mut self) -> Result<(), AcceptFault>
+        ensures ok { IfOk result (λ _. Gives (other_of self.old) self.new) }
+        ensures err { OnErr result (self.new ≡ self.old) }
+        ensures cause { IfErr result (λ f. Fails (other_of self.old) f) }
+    {
+        let Some(rule) = self.rules.pop() else {
+            return Ok(());
+        };
+        match second_start(self.alloc, &rule) {
+            Err(NoMemory) => {
+                self.rules.push_reserved(rule);
+                Err(AcceptFault::NoMemory)
+            }
+            Ok(None) => {
+                self.rules.push_reserved(rule);
+                Ok(())
+            }
+            Ok(Some(second)) => {
+                let state = mem::replace(&mut self.state, second);
+                let none = Body {
+                    items: Vec::new(self.alloc),
+                };
+                let items = mem::replace(&mut self.items, none);
+                self.rules.push_reserved(across(rule, state, items));
+                self.counted = self.counted.saturating_add(1);
+                Ok(())
+            }
+        }
+    }
+
+    /// Closes the innermost rule. To be written.
+    pub fn leave(&mut self) -> Result<(), AcceptFault>
+        ensures ok { IfOk result (λ _. Gives (left_by self.old) self.new) }
+        ensures err { OnErr result (self.new ≡ self.old) }
+        ensures cause { IfErr result (λ f. Fails (left_by self.old) f) }
+    {
+        let _state = &self.state;
+        Err(AcceptFault::NoMemory)
+    }
+
+    /// The sequential program of a walk to the end.
+    pub fn finish(&self) -> Result<SeqProgram, AcceptFault>
+        ensures ok { IfOk result (λ q. finished_by self.now ≡ okay q) }
+        ensures cause { IfErr result (λ f. Fails (finished_by self.now) f) }
+    {
+        if let Some(name) = first_unfinished(self.state.threads()) {
+            let why = Why::Side(SideFault::Unfinished(name));
+            return Err(AcceptFault::Bad(self.counted.saturating_add(2), why));
+        }
+        let program = copy_program(self.alloc, &self.program)?;
+        Ok(SeqProgram {
+            enums: program.enums,
+            roles: declared(self.alloc, &program.roles)?,
+            body: copy_body(self.alloc, &self.items)?,
+        })
+    }
+}
+
+// The rule in its second side, after the first with this end and these items.
+fn across(rule: Rule, state: State, items: Body) -> Rule
+    ensures { result ≡ record rule { side = second state items } }
+{
+    Rule {
+        step: rule.step,
+        side: Side::Second(state, items),
+        state: rule.state,
+        items: rule.items,
+        counted: rule.counted,
+    }
+}
+
+// The first thread that has code left.
+fn first_unfinished(threads: &[Thread]) -> Option<Name>
+    ensures { result ≡ unfinished_in threads.now }
+{
+    for thread in threads {
+        if has_code(&thread.code) {
+            return Some(thread.name);
+        }
+    }
+    None
+}
+
+// Puts the statement, if there is one, last.
+fn add(items: &mut Vec<Seq>, statement: Option<Seq>)
+    requires { vec_len items.old < vec_capacity items.old }
+    ensures { items_of items.new.items ≡ items_of items.old.items followed_by items_in (option_map item_of statement) }
+{
+    if let Some(statement) = statement {
+        items.push_reserved(statement);
+    }
+}
+
+/// The basic rule of a step.
+pub fn rule_of(step: &BasicStep) -> Basic
+    ensures { result ≡ rule_by step.now }
+{
+    match step {
+        BasicStep::Assign(t) => Basic::Assign(*t),
+        BasicStep::Fill(t, u, c, n) => Basic::Fill(*t, *u, *c, *n),
+        BasicStep::Pass(t, u, c) => Basic::Pass(*t, *u, *c),
+        BasicStep::Take(t, u, c) => Basic::Take(*t, *u, *c),
+        BasicStep::Known(t) => Basic::Known(*t),
+    }
+}

@@ -1,0 +1,3 @@
+pub mod Fulfilled
+pub mod Readings
+pub mod Threads

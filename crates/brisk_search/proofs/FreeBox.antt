@@ -1,0 +1,28 @@
+-- The number that is found is the least free one.
+use Rattle.std.proofs.Common.{◌≡◌, ℕ, zero, suc, ◌+◌, ◌≤◌, ◌<◌, Bool, true, false, Some, nat_eq, refl, subst, sym, arith}
+use Rattle.std.specs.Prelude.{if◌then◌else◌}
+use Rattle.std.proofs.lemmas.Bool.{eqb-true, eqb-false}
+use Rattle.brisk_state.specs.Pending.{IsLeastAbsent, IsLeastFree}
+use Rattle.brisk_state.specs.Symbolic.{Pending, is_in_use}
+use Rattle.brisk_rules.specs.Standing.{free_from, least_free}
+
+module _ (pending : Pending) where
+  from : (m n : ℕ) → ((i : ℕ) → 1 ≤ i → i < n → is_in_use pending i ≡ true) → 1 ≤ n → n + m ≡ 1000001 → IsLeastAbsent (is_in_use pending) (free_from m n pending)
+  from zero n h one e = λ i a b. h i a (omega (arith, b, e))
+  from (suc m) n h one e = go (is_in_use pending n) refl (λ used. from m (suc n) (next used) (omega arith) (omega (arith, e)))
+    where
+      next : is_in_use pending n ≡ true → (i : ℕ) → 1 ≤ i → i < suc n → is_in_use pending i ≡ true
+      next used i a b = at (nat_eq i n) refl
+        where
+          at : (c : Bool) → nat_eq i n ≡ c → is_in_use pending i ≡ true
+          at true is = subst (λ z. is_in_use pending z ≡ true) (sym (eqb-true i n is)) used
+          at false is = let apart = eqb-false i n is in h i a (omega (arith, b, apart))
+
+      go : (c : Bool) → is_in_use pending n ≡ c → (is_in_use pending n ≡ true → IsLeastAbsent (is_in_use pending) (free_from m (suc n) pending)) →
+          IsLeastAbsent (is_in_use pending) (if c then free_from m (suc n) pending else Some n)
+      go true is more = more is
+      go false is more = (one, omega (arith, e), is, h)
+
+-- it is the least number from 1 to 1,000,000 that pends nowhere, and none where each pends
+pub least_is_free : (pending : Pending) → IsLeastFree pending (least_free pending)
+least_is_free pending = from pending 1000000 1 (λ i a b. absurd (omega (arith, a, b))) (omega arith) refl

@@ -8,10 +8,6 @@ mod lines;
 mod pieces;
 mod programs;
 mod sequential;
-#[cfg(test)]
-mod tests;
-#[cfg(test)]
-mod worked;
 
 pub use laws::{program_layouts, sequential_layouts};
 pub use pieces::{print_value, put, put_number, put_value};

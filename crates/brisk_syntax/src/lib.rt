@@ -10,8 +10,6 @@ mod program;
 mod segments;
 mod stores;
 mod substitute;
-#[cfg(test)]
-mod tests;
 mod tree;
 
 pub use copy::{code_from, copy_code, copy_expr, copy_exprs, copy_names};

@@ -1,6 +1,8 @@
 //! Programs of processes: their trees, and what is done to a tree.
 #![tactic(auto)]
 
+mod classes;
+mod copies;
 mod copy;
 mod count;
 mod equal;
@@ -12,6 +14,8 @@ mod stores;
 mod substitute;
 mod tree;
 
+pub use classes::{is_star, is_straight};
+pub use copies::copy_program;
 pub use copy::{code_from, copy_code, copy_expr, copy_exprs, copy_names};
 pub use count::statements;
 pub use equal::{same_code, same_expr};

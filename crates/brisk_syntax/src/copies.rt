@@ -1,21 +1,11 @@
-//! Copies of programs and sizes, for a machine to keep.
+//! Copies of programs, which share the code of their roles.
 ghost use Rattle.std.specs.Prelude.{◌≡◌, IfOk};
 ghost use Rattle.brisk_syntax.specs.Texts.{text_of};
 
-use brisk_syntax::{
-    Channel, Channels, Decls, EnumDecl, Enums, Kinds, Program, Role, Roles, copy_names,
-};
-use brisk_values::{NoMemory, Sizes};
+use crate::copy::copy_names;
+use crate::program::{Channel, Channels, Decls, EnumDecl, Enums, Kinds, Program, Role, Roles};
+use brisk_values::NoMemory;
 use std::alloc::Global;
-
-/// The same sizes.
-pub fn copy_sizes(alloc: Global, sizes: &Sizes) -> Result<Sizes, NoMemory>
-    ensures { IfOk result (λ s. s ≡ sizes.now) }
-{
-    Ok(Sizes {
-        items: Vec::from_slice(alloc, &sizes.items)?,
-    })
-}
 
 fn copy_enum(alloc: Global, decl: &EnumDecl) -> Result<EnumDecl, NoMemory>
     ensures { IfOk result (λ d. d ≡ decl.now) }

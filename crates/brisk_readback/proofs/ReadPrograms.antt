@@ -18,9 +18,9 @@ use Rattle.brisk_syntax.specs.Roles.{RoleText}
 use Rattle.brisk_syntax.specs.Syntax.{Statement, Assign, Send, Recv, RecvAny, If, IfElse, While, For, Repeat, Code, done, ◌⨾◌}
 use Rattle.brisk_parse.specs.Spelling as spell
 use Rattle.brisk_print.specs.Layout as layout
-use Rattle.brisk_print.specs.Legal.{IsNamed, NamesPartners, NamesAll, IsWritable}
-use Rattle.brisk_print.proofs.Texts.{Reads, Separates, whole_read, nothing, space, newline, solid, spaced, spaced_word, word, name, ◌then◌, ◌and◌, ◌joint◌, ends_line, same_tokens, with_commas_read, joined_read, any}
-use Rattle.brisk_print.proofs.ReadExpressions.{left, right, semi, expression_reads, expressions_read, names_read, constant_reads, kind_reads}
+use Rattle.brisk_readback.specs.Legal.{IsNamed, NamesPartners, NamesAll, IsWritable}
+use Rattle.brisk_readback.proofs.Texts.{Reads, Separates, whole_read, nothing, space, newline, solid, spaced, spaced_word, word, name, ◌then◌, ◌and◌, ◌joint◌, ends_line, same_tokens, with_commas_read, joined_read, any}
+use Rattle.brisk_readback.proofs.ReadExpressions.{left, right, semi, expression_reads, expressions_read, names_read, constant_reads, kind_reads}
 
 -- ---- separators
 

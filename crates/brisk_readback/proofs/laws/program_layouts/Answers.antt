@@ -1,6 +1,6 @@
-use Rattle.brisk_print.proofs.ReadPrograms.{layout_is_spelled}
-use Rattle.brisk_print.proofs.Denoted.{layout_denotes, layouts_differ}
-use Rattle.brisk_print.proofs.laws.program_layouts.Goals as goal
+use Rattle.brisk_readback.proofs.ReadPrograms.{layout_is_spelled}
+use Rattle.brisk_readback.proofs.Denoted.{layout_denotes, layouts_differ}
+use Rattle.brisk_readback.proofs.laws.program_layouts.Goals as goal
 
 pub returns-clause-spelled : goal.returns-clause-spelled
 returns-clause-spelled c = layout_is_spelled

@@ -27,9 +27,10 @@ use Rattle.brisk_syntax.specs.declared.program.Const.{Const}
 use Rattle.brisk_syntax.specs.declared.program.Const.TheVariants as const
 use Rattle.brisk_syntax.specs.Syntax.{Expression, Num, Truth, Var, Tag, Size, Paren, Un, Bin}
 use Rattle.brisk_parse.specs.Spelling as spell
+use Rattle.brisk_text.specs.Values as text
 use Rattle.brisk_print.specs.Layout as layout
-use Rattle.brisk_print.specs.Legal.{AllLegal}
-use Rattle.brisk_print.proofs.Texts.{Reads, Separates, is_low, low_first, all_ascii, legal_parts, space, solid, spaced, word, name, number, ◌then◌, ◌and◌, ◌joint◌, loosen, same_text, with_commas_read}
+use Rattle.brisk_readback.specs.Legal.{AllLegal}
+use Rattle.brisk_readback.proofs.Texts.{Reads, Separates, is_low, low_first, all_ascii, legal_parts, space, solid, spaced, word, name, number, ◌then◌, ◌and◌, ◌joint◌, loosen, same_text, with_commas_read}
 
 pub dot : Separates (codes ".") (spell.mark m.Dot)
 dot = record { reads = solid m.Dot refl (λ _. tt); ends = refl }
@@ -49,11 +50,11 @@ minus = solid m.Minus refl (λ _. tt)
 hash : Reads false (codes "#") (spell.mark m.Hash)
 hash = solid m.Hash refl (λ _. tt)
 
-truth_reads : (b : Bool) → Reads true (layout.truth b) (spell.truth b)
+truth_reads : (b : Bool) → Reads true (text.truth b) (spell.truth b)
 truth_reads true = word w.KwTrue refl
 truth_reads false = word w.KwFalse refl
 
-tag_reads : (e x : Name) → Reads true (layout.tag e x) (spell.name e ++ spell.mark m.Dot ++ spell.name x)
+tag_reads : (e x : Name) → Reads true (text.tag e x) (spell.name e ++ spell.mark m.Dot ++ spell.name x)
 tag_reads e x = name e and dot then name x
 
 operator_reads : (op : Op2) → Separates (layout.operator2 op) (spell.mark (spell.operator2 op))

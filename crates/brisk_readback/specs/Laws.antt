@@ -10,7 +10,7 @@ use Rattle.brisk_parse.specs.SequenceSpelling.{sequence_spelling, LevelledSequen
 use Rattle.brisk_parse.specs.Spelling.{spelling}
 use Rattle.brisk_parse.specs.Within.{Within, Denotes}
 use Rattle.brisk_print.specs.Layout as layout
-use Rattle.brisk_print.specs.Legal.{AllLegal, IsWritable, IsWritableSequence}
+use Rattle.brisk_readback.specs.Legal.{AllLegal, IsWritable, IsWritableSequence}
 
 -- the tokens of a layout are the spelling of its program
 abbrev pub LayoutIsSpelled : Type 0

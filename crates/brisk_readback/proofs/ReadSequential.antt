@@ -15,10 +15,10 @@ use Rattle.brisk_seq.specs.Items.{Item, Items, nothing, ◌⨟◌}
 use Rattle.brisk_parse.specs.SequenceSpelling as seq
 use Rattle.brisk_parse.specs.Spelling as spell
 use Rattle.brisk_print.specs.Layout as layout
-use Rattle.brisk_print.specs.Legal.{IsWritableSequence}
-use Rattle.brisk_print.proofs.Texts.{Reads, nothing as no_text, space, newline, spaced_word, word, name, number, ◌then◌, ◌and◌, ◌joint◌, ends_line, same_tokens, joined_read, whole_read}
-use Rattle.brisk_print.proofs.ReadExpressions.{dot, left, right, semi, expression_reads, expressions_read, names_read}
-use Rattle.brisk_print.proofs.ReadPrograms.{assign, closing, indent, line_reads, lone, block_reads, blocks_read, heading_reads, declarations_read, enumerations_read}
+use Rattle.brisk_readback.specs.Legal.{IsWritableSequence}
+use Rattle.brisk_readback.proofs.Texts.{Reads, nothing as no_text, space, newline, spaced_word, word, name, number, ◌then◌, ◌and◌, ◌joint◌, ends_line, same_tokens, joined_read, whole_read}
+use Rattle.brisk_readback.proofs.ReadExpressions.{dot, left, right, semi, expression_reads, expressions_read, names_read}
+use Rattle.brisk_readback.proofs.ReadPrograms.{assign, closing, indent, line_reads, lone, block_reads, blocks_read, heading_reads, declarations_read, enumerations_read}
 
 at_reads : {o : Bool} {inside : List ℕ} {ts : List Token} (p : Name) → Reads o inside ts → Reads false (layout.at p inside) (seq.at_process p ts)
 at_reads p x = name p and (dot joint left.reads) then x and right

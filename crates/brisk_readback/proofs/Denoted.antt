@@ -14,11 +14,11 @@ use Rattle.brisk_parse.specs.SequenceSpelling.{sequence_spelling, LevelledOutlin
 use Rattle.brisk_parse.specs.Spelling.{spelling}
 use Rattle.brisk_parse.specs.Within.{Denotes}
 use Rattle.brisk_parse.proofs.Denoted.{denotes_one, denotes_one_sequence}
-use Rattle.brisk_print.specs.Laws.{LayoutDenotes, LayoutsDiffer, SequenceLayoutDenotes, SequenceLayoutsDiffer}
+use Rattle.brisk_readback.specs.Laws.{LayoutDenotes, LayoutsDiffer, SequenceLayoutDenotes, SequenceLayoutsDiffer}
 use Rattle.brisk_print.specs.Layout as layout
-use Rattle.brisk_print.specs.Legal.{IsNamed, NamesPartners, NamesAll}
-use Rattle.brisk_print.proofs.ReadPrograms.{layout_is_spelled}
-use Rattle.brisk_print.proofs.ReadSequential.{sequential_is_spelled}
+use Rattle.brisk_readback.specs.Legal.{IsNamed, NamesPartners, NamesAll}
+use Rattle.brisk_readback.proofs.ReadPrograms.{layout_is_spelled}
+use Rattle.brisk_readback.proofs.ReadSequential.{sequential_is_spelled}
 
 -- ---- in levelled trees no partner is a process
 

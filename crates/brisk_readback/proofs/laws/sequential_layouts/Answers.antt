@@ -1,6 +1,6 @@
-use Rattle.brisk_print.proofs.ReadSequential.{sequential_is_spelled}
-use Rattle.brisk_print.proofs.Denoted.{sequence_layout_denotes, sequence_layouts_differ}
-use Rattle.brisk_print.proofs.laws.sequential_layouts.Goals as goal
+use Rattle.brisk_readback.proofs.ReadSequential.{sequential_is_spelled}
+use Rattle.brisk_readback.proofs.Denoted.{sequence_layout_denotes, sequence_layouts_differ}
+use Rattle.brisk_readback.proofs.laws.sequential_layouts.Goals as goal
 
 pub returns-clause-spelled : goal.returns-clause-spelled
 returns-clause-spelled c = sequential_is_spelled

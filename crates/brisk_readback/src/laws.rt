@@ -1,5 +1,5 @@
 //! What holds of the layouts.
-ghost use Rattle.brisk_print.specs.Laws.{LayoutDenotes, LayoutIsSpelled, LayoutsDiffer, SequenceLayoutDenotes, SequenceLayoutIsSpelled, SequenceLayoutsDiffer};
+ghost use Rattle.brisk_readback.specs.Laws.{LayoutDenotes, LayoutIsSpelled, LayoutsDiffer, SequenceLayoutDenotes, SequenceLayoutIsSpelled, SequenceLayoutsDiffer};
 
 /// The tokens of a program's layout are its spelling. So a layout denotes its program, and programs that differ have
 /// layouts that differ.

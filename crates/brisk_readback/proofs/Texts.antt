@@ -21,7 +21,7 @@ use Rattle.brisk_lex.proofs.Ascii.{both}
 use Rattle.brisk_lex.proofs.Printed.{read, before, Ends, MarkEnds, is_plain, plain_ends, digits_end, name_read, word_read, number_read, mark_read, tokens_read, space_read, newline_read}
 use Rattle.brisk_parse.specs.Spelling as spell
 use Rattle.brisk_print.specs.Layout.{behind_commas, with_commas, joined}
-use Rattle.brisk_print.specs.Legal.{AllLegal}
+use Rattle.brisk_readback.specs.Legal.{AllLegal}
 
 -- tokens, and then those that are read after them
 abbrev pub all_before : List Token → Result (List Token) LexFault → Result (List Token) LexFault

@@ -2,7 +2,7 @@
 use Rattle.std.proofs.Common.{◌≡◌, true, List, [], ◌∷◌, ◌++◌, Some, None, refl, sym, ap, subst, ◌∙◌, append_assoc, append-nil}
 use Rattle.std.specs.Prelude.{Result, Ok, Err}
 use Rattle.std.specs.List.{AllByRecursion}
-use Rattle.brisk_print.specs.Layout.{Text}
+use Rattle.brisk_text.specs.Values.{Text}
 use Rattle.brisk_derivtext.specs.Lines.{Line, line_text, IsLegal, BeginsWith}
 use Rattle.brisk_derivtext.specs.Laws.{FailsOnce, ReadOnce, ReadStands}
 use Rattle.brisk_derivtext.specs.Reading.{Reading, start, next, Trouble, NoLine, TooLong, bounded, and_then, read_line, read_all, TextFault, AtLine, TooLarge, FailsBehind}

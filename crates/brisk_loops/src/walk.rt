@@ -16,9 +16,9 @@ use crate::leave::{ending, left};
 use crate::pieces::loose_fault;
 use crate::rest::has_code;
 use crate::rule::{Rule, Side};
-use brisk_rules::Why;
 use brisk_basic::{Basic, apply, refusal};
 use brisk_derivation::{BasicStep, SideFault, Step};
+use brisk_rules::Why;
 use brisk_seq::{Body, Seq, SeqProgram};
 use brisk_state::{State, Thread};
 use brisk_syntax::{Program, copy_program};
@@ -107,7 +107,12 @@ impl Walk {
     /// The state at the end of the first side, in the second side of a branch.
     pub fn first_end(&self) -> Option<&State> {
         match self.rules.last() {
-            Some(Rule { side: Side::Second(state, _), .. }) => Some(state),
+            Some(
+                Rule {
+                    side: Side::Second(state, _),
+                    ..
+                },
+            ) => Some(state),
             _ => None,
         }
     }
@@ -152,22 +157,25 @@ impl Walk {
         ensures err { OnErr result (self.new ≡ self.old) }
         ensures cause { IfErr result (λ f. Fails (applied_by self.old step.now) f) }
     {
-        if self.items.items.reserve(1).is_err() {
-            return Err(AcceptFault::NoMemory);
-        }
         let rule = rule_of(step);
-        let fault = loose_fault(self.alloc, &self.program, &self.rules, &self.state, &rule)?;
-        if let Some(fault) = fault {
-            let own = refusal(&self.state, &rule);
-            return Err(told_first(self.counted, own, fault));
-        }
-        match apply(self.alloc, &mut self.state, &rule) {
-            Err(why) => Err(told(self.counted, why)),
-            Ok(statement) => {
-                add(&mut self.items.items, statement);
-                self.applied = self.applied.saturating_add(1);
-                self.counted = self.counted.saturating_add(1);
-                Ok(())
+        match loose_fault(self.alloc, &self.program, &self.rules, &self.state, &rule)? {
+            Some(fault) => {
+                let own = refusal(&self.state, &rule);
+                Err(told_first(self.counted, own, fault))
+            }
+            None => {
+                if self.items.items.reserve(1).is_err() {
+                    return Err(AcceptFault::NoMemory);
+                }
+                match apply(self.alloc, &mut self.state, &rule) {
+                    Err(why) => Err(told(self.counted, why)),
+                    Ok(statement) => {
+                        add(&mut self.items.items, statement);
+                        self.applied = self.applied.saturating_add(1);
+                        self.counted = self.counted.saturating_add(1);
+                        Ok(())
+                    }
+                }
             }
         }
     }
@@ -248,11 +256,6 @@ impl Walk {
         let Some(rule) = self.rules.pop() else {
             return Ok(());
         };
-        let mut rule = rule;
-        if rule.items.items.reserve(1).is_err() {
-            self.rules.push_reserved(rule);
-            return Err(AcceptFault::NoMemory);
-        }
         match ending(self.alloc, &rule, &self.state) {
             Err(why) => {
                 self.rules.push_reserved(rule);
@@ -263,6 +266,11 @@ impl Walk {
                 Ok(())
             }
             Ok(Some(ended)) => {
+                let mut rule = rule;
+                if rule.items.items.reserve(1).is_err() {
+                    self.rules.push_reserved(rule);
+                    return Err(AcceptFault::NoMemory);
+                }
                 let none = Body {
                     items: Vec::new(self.alloc),
                 };

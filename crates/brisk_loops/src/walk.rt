@@ -4,9 +4,9 @@ ghost use Rattle.brisk_seq.specs.Items.{◌followed_by◌};
 ghost use Rattle.brisk_seq.specs.Seen.{item_of, items_of};
 ghost use Rattle.brisk_syntax.specs.WellTyped.{IsProgramWellTyped};
 ghost use Rattle.brisk_derivation.specs.Seen.{step_of};
-ghost use Rattle.brisk_loops.specs.Walk.{back as given_up, basic as applied_by, enter as entered_by, finish as finished_by, leave as left_by, other as other_of, rewind as rewound, start};
-ghost use Rattle.brisk_rules.specs.Derives.{first_unfinished as unfinished_in, items_in, rule_of as rule_by};
-ghost use Rattle.brisk_loops.specs.WalkSeen.{Fails, Gives};
+ghost use Rattle.brisk_loops.specs.Walk.{back as given_up, basic as applied_by, enter as entered_by, finish as finished_by, follows, leave as left_by, other as other_of, rewind as rewound, start};
+ghost use Rattle.brisk_rules.specs.Derives.{apply_quietly, first_unfinished as unfinished_in, items_in, rule_of as rule_by};
+ghost use Rattle.brisk_loops.specs.WalkSeen.{Fails, Gives, fault_by};
 ghost use Rattle.brisk_loops.specs.declared.rule.Side.TheVariants.{Second as second};
 
 use crate::copies::{copy_body, declared};
@@ -177,6 +177,21 @@ impl Walk {
                     }
                 }
             }
+        }
+    }
+
+    /// Why a basic rule doesn't apply: its own test that fails first, or else that for loose channels; none where it
+    /// applies. It copies no state.
+    pub fn refusal(&self, step: &BasicStep) -> Result<Option<Why>, NoMemory>
+        ensures { IfOk result (λ o. o ≡ fault_by (apply_quietly self.now.program (follows self.now.entered) self.now.state (rule_by step.now))) }
+    {
+        let rule = rule_of(step);
+        if let Some(why) = refusal(&self.state, &rule) {
+            return Ok(Some(Why::Rule(why)));
+        }
+        match loose_fault(self.alloc, &self.program, &self.rules, &self.state, &rule)? {
+            None => Ok(None),
+            Some(fault) => Ok(Some(Why::Side(fault))),
         }
     }
 

@@ -1,0 +1,1 @@
+use Rattle.brisk_loops.proofs.walk.Walk.refusal.Goals as goal

@@ -16,13 +16,13 @@ use Rattle.brisk_basic.specs.declared.rule.RuleFault.{RuleFault}
 use Rattle.brisk_basic.specs.declared.rule.RuleFault.TheVariants as basic_fault
 use Rattle.brisk_derivation.specs.declared.fault.SideFault.{SideFault}
 use Rattle.brisk_derivation.specs.declared.steps.BasicStep.{BasicStep}
-use Rattle.brisk_rules.specs.declared.why.Why.TheVariants.{Rule, Side}
+use Rattle.brisk_rules.specs.declared.why.Why.TheVariants.{Rule}
 use Rattle.brisk_rules.specs.Derives.{told_at, items_in, rule_of}
 use Rattle.brisk_rules.specs.Following.{loose_fault}
 use Rattle.brisk_rules.specs.Rules.{Outcome, fault_or}
 use Rattle.brisk_loops.specs.Walk.{Walked, Called, line, follows, basic}
 use Rattle.brisk_loops.specs.WalkKept.{kept}
-use Rattle.brisk_loops.specs.WalkSeen.{Gives, Fails, fault_by, told_by, told_first_by}
+use Rattle.brisk_loops.specs.WalkSeen.{Gives, Fails, told_by, told_first_by}
 
 -- one item more
 pub items_more : (xs : List Seq) (x : Seq) → items_of (xs ++ x ∷ []) ≡ items_of xs followed_by (item_of x ⨟ nothing)
@@ -98,19 +98,6 @@ loosely_fails w now b r own fault same is own_is loose =
     by (Some why) (Ok a) e h = absurd cc
     by None (Err why) e h = absurd cc
     by (Some why) (Err other) e h = own_fails w b why (e ∙ ap Err (sym (same_Some why other h)))
-
--- why a basic rule doesn't apply, from its own test and that for loose channels
-pub own_told : {A : Type 0} (x : Result A RuleFault) (go : A → Outcome A) (why : RuleFault) → Some why ≡ fault_of x → Some (Rule why) ≡ fault_by (and_then (told_as Rule x) go)
-own_told (Ok a) go why h = absurd cc
-own_told (Err other) go why h = ap (λ (z : RuleFault). Some (Rule z)) (same_Some why other h)
-
-pub loose_told : {A : Type 0} (x : Result A RuleFault) (o : Option SideFault) (fault : SideFault) → None ≡ fault_of x → Some fault ≡ o → Some (Side fault) ≡ fault_by (and_then (told_as Rule x) (fault_or o))
-loose_told (Ok a) o fault h is = ap (λ (z : Option SideFault). fault_by (fault_or z a)) is
-loose_told (Err other) o fault h is = absurd cc
-
-pub none_told : {A : Type 0} (x : Result A RuleFault) (o : Option SideFault) → None ≡ fault_of x → None ≡ o → None ≡ fault_by (and_then (told_as Rule x) (fault_or o))
-none_told (Ok a) o h is = ap (λ (z : Option SideFault). fault_by (fault_or z a)) is
-none_told (Err other) o h is = absurd cc
 
 -- bodies whose items are seen alike are alike
 abbrev as_items : List Item → Items

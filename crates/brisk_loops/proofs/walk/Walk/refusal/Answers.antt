@@ -1,1 +1,0 @@
-use Rattle.brisk_loops.proofs.walk.Walk.refusal.Goals as goal

@@ -1,6 +1,7 @@
 -- A program that a source holds has begun no loop, and each of its enumerations has a tag.
-use Rattle.std.proofs.Common.{◌≡◌, ℕ, zero, suc, Bool, true, false, List, [], ◌∷◌, length, refl, ap, ◌∙◌}
+use Rattle.std.proofs.Common.{◌≡◌, ℕ, zero, suc, Bool, true, false, List, [], ◌∷◌, length, refl, ap, ◌∙◌, arith}
 use Rattle.std.specs.Prelude.{◌&&◌, nat_eq, nat_lt}
+use Rattle.std.proofs.lemmas.Bool.{lt-ltb}
 use Rattle.std.specs.List.{AllByRecursion, list_all}
 use Rattle.brisk_values.specs.Names.{Name}
 use Rattle.brisk_syntax.specs.declared.program.EnumDecl.{EnumDecl}
@@ -42,7 +43,7 @@ unbegun P h = roles_unbegun P.roles h.roles
 
 some_tag : (tags : List Name) → (tags ≡ [] → ⊥) → nat_lt 0 (length tags) ≡ true
 some_tag [] h = absurd (h refl)
-some_tag (t ∷ ts) h = refl
+some_tag (t ∷ ts) h = lt-ltb 0 (length (t ∷ ts)) (omega arith)
 
 enums_tagged : (enums : List EnumDecl) → AllByRecursion HasTags enums → each_has_tag enums ≡ true
 enums_tagged [] h = refl

@@ -4,6 +4,8 @@ use Rattle.brisk_cli.specs.Answers.{source_limit}
 use Rattle.brisk_cli.specs.Rewriting.{OfRewriting}
 use Rattle.brisk_cli.specs.Languages.{sources}
 use Rattle.brisk_cli.proofs.Stages.{fault_answered, next_answered, unread_answered}
+use Rattle.brisk_types.proofs.Agreeing.{is_typed}
+use Rattle.brisk_cli.proofs.Unbegun.{tagged, unbegun}
 use Rattle.brisk_cli.proofs.commands.rewrite.Goals as goal
 
 pub returns-in_err-bytes-clause-told : goal.returns-in_err-bytes-clause-told
@@ -21,4 +23,6 @@ returns-clause-told g c =
     next_answered source_limit c.args.name.now sources (λ f failed. OfRewriting) (g.F.Folder.files c.args.folder.now) (g.F.Folder.faults c.args.folder.now) (g.F.Folder.faults c.file.new.folder) (Ok c.in_ok-rewritten.field-0) c.in_ok-bytes.bytes.items c.deref.result.now c.in_ok-program.program c.in_ok-bytes.ensures.few c.deref.ensures.value c.in_ok-bytes.ensures.whole c.in_ok-program.ensures.holds (λ f. c.in_ok-rewritten.ensures)
 
 pub rewritten-requires : goal.rewritten-requires
-rewritten-requires g c = ?
+rewritten-requires g c =
+    let P = c.in_ok-program.program in let levelled = c.in_ok-program.ensures.holds.answer.levelled in
+    record { typed = is_typed P c.in_ok-program.ensures.holds.typed; unbegun = unbegun P levelled; tagged = tagged P levelled }

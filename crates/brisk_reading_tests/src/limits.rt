@@ -4,213 +4,337 @@ use brisk_parse::ParseFault;
 use std::alloc::Global;
 use std::test::Fail;
 
-// A text with a part that is repeated: how often it may be, and the token that is told where it is once more.
+// A text with a part that is repeated, and maybe closed as often, and its fault.
 #[derive(Clone, Copy)]
 struct Repeated {
     before: &'static [u8],
-    part: &'static [u8],
+    opening: &'static [u8],
+    closing: &'static [u8],
     after: &'static [u8],
-    most: usize,
-    token: u32,
+    times: usize,
+    want: Option<ParseFault>,
+}
+
+fn extend(text: &mut Vec<u8>, part: &[u8], times: usize) -> Result<(), Fail> {
+    for _time in 0..times {
+        text.extend_from_slice(part)?;
+    }
+    Ok(())
 }
 
 impl Repeated {
-    fn text(&self, alloc: Global, is_over: bool) -> Result<Vec<u8>, Fail> {
+    fn text(&self, alloc: Global) -> Result<Vec<u8>, Fail> {
         let mut text = Vec::from_slice(alloc, self.before)?;
-        for _time in 0..self.most {
-            text.extend_from_slice(self.part)?;
-        }
-        if is_over {
-            text.extend_from_slice(self.part)?;
-        }
+        extend(&mut text, self.opening, self.times)?;
+        extend(&mut text, self.closing, self.times)?;
         text.extend_from_slice(self.after)?;
         Ok(text)
     }
 }
 
-const SOURCES: [Repeated; 12] = [
+const SOURCES: [Repeated; 27] = [
     Repeated {
         before: b"",
-        part: b"enum E{A}",
+        opening: b"enum E{A}",
+        closing: b"",
         after: b"",
-        most: 256,
-        token: 1280,
+        times: 256,
+        want: None,
+    },
+    Repeated {
+        before: b"",
+        opening: b"enum E{A}",
+        closing: b"",
+        after: b"",
+        times: 257,
+        want: Some(ParseFault::TooMany(1280)),
     },
     Repeated {
         before: b"enum E{A",
-        part: b",A",
+        opening: b",A",
+        closing: b"",
         after: b"}",
-        most: 255,
-        token: 515,
+        times: 255,
+        want: None,
+    },
+    Repeated {
+        before: b"enum E{A",
+        opening: b",A",
+        closing: b"",
+        after: b"}",
+        times: 256,
+        want: Some(ParseFault::TooMany(515)),
     },
     Repeated {
         before: b"",
-        part: b"channel C();",
+        opening: b"channel C();",
+        closing: b"",
         after: b"",
-        most: 1024,
-        token: 5120,
+        times: 1024,
+        want: None,
+    },
+    Repeated {
+        before: b"",
+        opening: b"channel C();",
+        closing: b"",
+        after: b"",
+        times: 1025,
+        want: Some(ParseFault::TooMany(5120)),
     },
     Repeated {
         before: b"channel C(int",
-        part: b",int",
+        opening: b",int",
+        closing: b"",
         after: b");",
-        most: 15,
-        token: 35,
+        times: 15,
+        want: None,
+    },
+    Repeated {
+        before: b"channel C(int",
+        opening: b",int",
+        closing: b"",
+        after: b");",
+        times: 16,
+        want: Some(ParseFault::TooMany(35)),
     },
     Repeated {
         before: b"",
-        part: b"many A{}",
+        opening: b"many A{}",
+        closing: b"",
         after: b"",
-        most: 256,
-        token: 1024,
+        times: 256,
+        want: None,
+    },
+    Repeated {
+        before: b"",
+        opening: b"many A{}",
+        closing: b"",
+        after: b"",
+        times: 257,
+        want: Some(ParseFault::TooMany(1024)),
     },
     Repeated {
         before: b"one A{",
-        part: b"input x:int;",
+        opening: b"input x:int;",
+        closing: b"",
         after: b"}",
-        most: 256,
-        token: 1283,
+        times: 256,
+        want: None,
+    },
+    Repeated {
+        before: b"one A{",
+        opening: b"input x:int;",
+        closing: b"",
+        after: b"}",
+        times: 257,
+        want: Some(ParseFault::TooMany(1283)),
     },
     Repeated {
         before: b"one A{send C(1",
-        part: b",1",
+        opening: b",1",
+        closing: b"",
         after: b")to B;}",
-        most: 15,
-        token: 38,
+        times: 15,
+        want: None,
+    },
+    Repeated {
+        before: b"one A{send C(1",
+        opening: b",1",
+        closing: b"",
+        after: b")to B;}",
+        times: 16,
+        want: Some(ParseFault::TooMany(38)),
     },
     Repeated {
         before: b"one A{recv C(x",
-        part: b",x",
+        opening: b",x",
+        closing: b"",
         after: b")from B;}",
-        most: 15,
-        token: 38,
+        times: 15,
+        want: None,
+    },
+    Repeated {
+        before: b"one A{recv C(x",
+        opening: b",x",
+        closing: b"",
+        after: b")from B;}",
+        times: 16,
+        want: Some(ParseFault::TooMany(38)),
     },
     Repeated {
         before: b"one A{x:=",
-        part: b"!",
+        opening: b"!",
+        closing: b"",
         after: b"a;}",
-        most: 255,
-        token: 261,
+        times: 255,
+        want: None,
+    },
+    Repeated {
+        before: b"one A{x:=",
+        opening: b"!",
+        closing: b"",
+        after: b"a;}",
+        times: 256,
+        want: Some(ParseFault::TooMany(261)),
     },
     Repeated {
         before: b"one A{x:=-1",
-        part: b"+1",
+        opening: b"+1",
+        closing: b"",
         after: b";}",
-        most: 127,
-        token: 261,
+        times: 127,
+        want: None,
+    },
+    Repeated {
+        before: b"one A{x:=-1",
+        opening: b"+1",
+        closing: b"",
+        after: b";}",
+        times: 128,
+        want: Some(ParseFault::TooMany(261)),
     },
     Repeated {
         before: b"one A{",
-        part: b"x:=1;",
+        opening: b"x:=1;",
+        closing: b"",
         after: b"}",
-        most: 20_000,
-        token: 80_003,
+        times: 20_000,
+        want: None,
+    },
+    Repeated {
+        before: b"one A{",
+        opening: b"x:=1;",
+        closing: b"",
+        after: b"}",
+        times: 20_001,
+        want: Some(ParseFault::TooMany(80_003)),
     },
     Repeated {
         before: b"one A{x:=1;repeat W{",
-        part: b"if a{}",
+        opening: b"if a{}",
+        closing: b"",
         after: b"}}",
-        most: 19_998,
-        token: 80_002,
+        times: 19_998,
+        want: None,
+    },
+    Repeated {
+        before: b"one A{x:=1;repeat W{",
+        opening: b"if a{}",
+        closing: b"",
+        after: b"}}",
+        times: 19_999,
+        want: Some(ParseFault::TooMany(80_002)),
+    },
+    // a comma at the limit leads to nothing else
+    Repeated {
+        before: b"channel C(int",
+        opening: b",int",
+        closing: b"",
+        after: b",);",
+        times: 15,
+        want: Some(ParseFault::SyntaxFault(35)),
+    },
+    // blocks
+    Repeated {
+        before: b"one A {",
+        opening: b" if true {",
+        closing: b" }",
+        after: b" }",
+        times: 63,
+        want: None,
+    },
+    Repeated {
+        before: b"one A {",
+        opening: b" if true {",
+        closing: b" }",
+        after: b" }",
+        times: 64,
+        want: Some(ParseFault::TooDeep(194)),
     },
 ];
 
 #[test]
-fn parts_of_a_source(rt: HostRuntime) -> Result<(), Fail> {
-    for repeated in &SOURCES {
-        let text = repeated.text(rt.alloc(), false)?;
-        assert_eq!(rt; fault(rt.alloc(), &text)?, None);
-        let text = repeated.text(rt.alloc(), true)?;
-        let want = ParseFault::TooMany(repeated.token);
-        assert_eq!(rt; fault(rt.alloc(), &text)?, Some(want));
+fn limits_of_sources(rt: HostRuntime) -> Result<(), Fail> {
+    for row in &SOURCES {
+        let fault = fault(rt.alloc(), &row.text(rt.alloc())?)?;
+        assert_eq!(rt; fault, row.want, "at {} of {:?}", row.times, row.opening);
     }
     Ok(())
 }
 
-const SEQUENCES: [Repeated; 3] = [
+const SEQUENCES: [Repeated; 8] = [
     Repeated {
         before: b"begin A.(x",
-        part: b",x",
+        opening: b",x",
+        closing: b"",
         after: b"):=B.();end",
-        most: 15,
-        token: 36,
+        times: 15,
+        want: None,
+    },
+    Repeated {
+        before: b"begin A.(x",
+        opening: b",x",
+        closing: b"",
+        after: b"):=B.();end",
+        times: 16,
+        want: Some(ParseFault::TooMany(36)),
     },
     Repeated {
         before: b"begin A.():=B.(1",
-        part: b",1",
+        opening: b",1",
+        closing: b"",
         after: b");end",
-        most: 15,
-        token: 41,
+        times: 15,
+        want: None,
+    },
+    Repeated {
+        before: b"begin A.():=B.(1",
+        opening: b",1",
+        closing: b"",
+        after: b");end",
+        times: 16,
+        want: Some(ParseFault::TooMany(41)),
     },
     Repeated {
         before: b"begin while A.(",
-        part: b"!",
+        opening: b"!",
+        closing: b"",
         after: b"a){}end",
-        most: 255,
-        token: 261,
+        times: 255,
+        want: None,
+    },
+    Repeated {
+        before: b"begin while A.(",
+        opening: b"!",
+        closing: b"",
+        after: b"a){}end",
+        times: 256,
+        want: Some(ParseFault::TooMany(261)),
+    },
+    // blocks
+    Repeated {
+        before: b"begin",
+        opening: b" repeat W {",
+        closing: b" }",
+        after: b" end",
+        times: 320,
+        want: None,
+    },
+    Repeated {
+        before: b"begin",
+        opening: b" repeat W {",
+        closing: b" }",
+        after: b" end",
+        times: 321,
+        want: Some(ParseFault::TooDeep(963)),
     },
 ];
 
 #[test]
-fn parts_of_a_sequential_text(rt: HostRuntime) -> Result<(), Fail> {
-    for repeated in &SEQUENCES {
-        let text = repeated.text(rt.alloc(), false)?;
-        assert_eq!(rt; sequence_fault(rt.alloc(), &text)?, None);
-        let text = repeated.text(rt.alloc(), true)?;
-        let want = ParseFault::TooMany(repeated.token);
-        assert_eq!(rt; sequence_fault(rt.alloc(), &text)?, Some(want));
-    }
-    Ok(())
-}
-
-#[test]
-fn a_comma_at_the_limit_leads_to_nothing_else(rt: HostRuntime) -> Result<(), Fail> {
-    let kinds = Repeated {
-        before: b"channel C(int",
-        part: b",int",
-        after: b",);",
-        most: 15,
-        token: 35,
-    };
-    let text = kinds.text(rt.alloc(), false)?;
-    let want = ParseFault::SyntaxFault(kinds.token);
-    assert_eq!(rt; fault(rt.alloc(), &text)?, Some(want));
-    Ok(())
-}
-
-// A role, or a body, with blocks one in another.
-fn nested(
-    alloc: Global,
-    before: &[u8],
-    opening: &[u8],
-    times: usize,
-    after: &[u8],
-) -> Result<Vec<u8>, Fail> {
-    let mut text = Vec::from_slice(alloc, before)?;
-    for _time in 0..times {
-        text.extend_from_slice(opening)?;
-    }
-    for _time in 0..times {
-        text.extend_from_slice(b" }")?;
-    }
-    text.extend_from_slice(after)?;
-    Ok(text)
-}
-
-#[test]
-fn blocks_of_a_source(rt: HostRuntime) -> Result<(), Fail> {
-    for (times, want) in [(63, None), (64, Some(ParseFault::TooDeep(194)))] {
-        let text = nested(rt.alloc(), b"one A {", b" if true {", times, b" }")?;
-        assert_eq!(rt; fault(rt.alloc(), &text)?, want);
-    }
-    Ok(())
-}
-
-#[test]
-fn blocks_of_a_sequential_text(rt: HostRuntime) -> Result<(), Fail> {
-    for (times, want) in [(320, None), (321, Some(ParseFault::TooDeep(963)))] {
-        let text = nested(rt.alloc(), b"begin", b" repeat W {", times, b" end")?;
-        assert_eq!(rt; sequence_fault(rt.alloc(), &text)?, want);
+fn limits_of_sequential_texts(rt: HostRuntime) -> Result<(), Fail> {
+    for row in &SEQUENCES {
+        let fault = sequence_fault(rt.alloc(), &row.text(rt.alloc())?)?;
+        assert_eq!(rt; fault, row.want, "at {} of {:?}", row.times, row.opening);
     }
     Ok(())
 }

@@ -118,10 +118,13 @@ fn is_read_so(alloc: Global, source: &[u8], want: &Expr) -> Result<bool, Fail> {
 }
 
 #[test]
-fn operators_group_to_the_left(rt: HostRuntime) -> Result<(), Fail> {
+fn operators_group_to_the_left_and_signs_belong_to_operands(rt: HostRuntime) -> Result<(), Fail> {
     let first = binary(rt.alloc(), Expr::Num(1), Expr::Num(2))?;
     let want = binary(rt.alloc(), first, Expr::Num(3))?;
     assert!(rt; is_read_so(rt.alloc(), b"one A{x:=1-2-3;}", &want)?);
+    let negative = Expr::Un(Op1::Neg, Box::new(rt.alloc(), Expr::Num(2))?);
+    let want = binary(rt.alloc(), Expr::Num(1), negative)?;
+    assert!(rt; is_read_so(rt.alloc(), b"one A{x:=1- -2;}", &want)?);
     Ok(())
 }
 
@@ -131,13 +134,5 @@ fn brackets_are_kept(rt: HostRuntime) -> Result<(), Fail> {
     let bracket = Expr::Paren(Box::new(rt.alloc(), inner)?);
     let want = binary(rt.alloc(), Expr::Num(1), bracket)?;
     assert!(rt; is_read_so(rt.alloc(), b"one A{x:=1-(2-3);}", &want)?);
-    Ok(())
-}
-
-#[test]
-fn a_sign_belongs_to_its_operand(rt: HostRuntime) -> Result<(), Fail> {
-    let negative = Expr::Un(Op1::Neg, Box::new(rt.alloc(), Expr::Num(2))?);
-    let want = binary(rt.alloc(), Expr::Num(1), negative)?;
-    assert!(rt; is_read_so(rt.alloc(), b"one A{x:=1- -2;}", &want)?);
     Ok(())
 }

@@ -1,0 +1,5 @@
+//! Tests of sequential programs that are run.
+#![tactic(auto)]
+
+#[cfg(test)]
+mod runs;

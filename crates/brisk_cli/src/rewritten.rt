@@ -17,6 +17,7 @@ use std::alloc::Global;
 
 // So many rules may be applied for a program without statements, and so many more for each statement.
 const LEAST_BUDGET: u64 = 20_000;
+
 const PER_STATEMENT: u64 = 64;
 
 /// The sequential program of a program, or why it isn't rewritten.

@@ -63,6 +63,27 @@ fn served(alloc: Global, text: &str, bytes: &[u8]) -> Result<(Status, Vec<u8>), 
     Ok((status, Vec::from_slice(alloc, out.written())?))
 }
 
+const OVERTAKING: &str = "channel T(int);
+one M { var x : int = 0; repeat Ws { recv T(x) from any w in Ws { } }
+  repeat Ws { recv T(x) from any w in Ws { } } }
+many Ws { input v : int; send T(v) to M; send T(v) to M; }";
+
+const OVERTAKEN: &str = "overtaken
+brisk schedule 1
+size Ws 2
+input Ws[0].v = 0
+input Ws[1].v = 0
+event Ws[0]
+event Ws[0]
+event Ws[1]
+event Ws[1]
+event M
+event M from Ws[0]
+event M
+event M from Ws[0]
+end
+";
+
 #[test]
 fn each_source_has_its_answer(rt: HostRuntime) -> Result<(), Fail> {
     let alloc = rt.alloc();
@@ -74,10 +95,21 @@ fn each_source_has_its_answer(rt: HostRuntime) -> Result<(), Fail> {
              one A { var x : int = 0; recv P(x) from B; send Q(1) to B; }
              one B { var y : int = 0; recv Q(y) from A; send P(1) to A; }",
             Status::Refused,
-            "not sequenced\n",
+            "deadlock\nbrisk schedule 1\nend\n",
         ),
         (
             "channel T(int); one A { send T(1) to B; } one B { }",
+            Status::Done,
+            "one A {\n}\none B {\n}\nbegin\n  box 1 (A to B) := A.(1);\nend\n",
+        ),
+        (OVERTAKING, Status::Refused, OVERTAKEN),
+        (
+            "channel T(int); one A { while true { send T(1) to B; } } one B { }",
+            Status::Refused,
+            "budget 20128\n",
+        ),
+        (
+            "channel T(int); one M { for u in Ws { for v in Ws { send T(1) to v; } } } many Ws { }",
             Status::Refused,
             "not sequenced\n",
         ),
@@ -91,8 +123,8 @@ fn each_source_has_its_answer(rt: HostRuntime) -> Result<(), Fail> {
         ),
         (
             "one A { while true { } }",
-            Status::BadInput,
-            "source NotInFragment\n",
+            Status::Done,
+            "one A {\n}\nbegin\n  while A.(true) {\n  }\nend\n",
         ),
     ] {
         let (answer, written) = served(alloc, "rewrite F", source.as_bytes())?;

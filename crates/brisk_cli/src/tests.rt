@@ -104,11 +104,6 @@ fn each_source_has_its_answer(rt: HostRuntime) -> Result<(), Fail> {
         ),
         (OVERTAKING, Status::Refused, OVERTAKEN),
         (
-            "channel T(int); one A { while true { send T(1) to B; } } one B { }",
-            Status::Refused,
-            "budget 20128\n",
-        ),
-        (
             "channel T(int); one M { for u in Ws { for v in Ws { send T(1) to v; } } } many Ws { }",
             Status::Refused,
             "not sequenced\n",

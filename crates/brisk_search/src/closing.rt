@@ -153,7 +153,12 @@ pub(crate) fn is_new_for(
     }
     let old = before.pending()?;
     let new = walk.state().pending()?;
-    Ok(new.iter().any(|m| m.to == thread.name && !old.contains(m)))
+    // what is new stands last
+    Ok(
+        new.iter()
+            .rev()
+            .any(|m| m.to == thread.name && !old.contains(m)),
+    )
 }
 
 // The thread's code isn't what it was.

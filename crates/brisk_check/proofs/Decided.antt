@@ -7,7 +7,9 @@ use Rattle.brisk_lines.specs.Pieces.{Lacks}
 use Rattle.brisk_lines.proofs.Cuts.{cut_once}
 use Rattle.brisk_print.specs.Layout.{Text}
 use Rattle.brisk_derivation.specs.Steps.{Steps}
-use Rattle.brisk_derivtext.specs.Lines.{Format, Line, line_text, IsLegal, BeginsWith}
+use Rattle.brisk_derivtext.specs.declared.line.Format.{Format}
+use Rattle.brisk_derivtext.specs.declared.line.Line.{Line}
+use Rattle.brisk_derivtext.specs.Lines.{line_text, IsLegal, BeginsWith}
 use Rattle.brisk_derivtext.specs.Reading.{Reading, start, Trouble, NoLine, TooLong, next, bounded, read_line, read_all, and_then, ComesTo, IsRead, TextFault, AtLine, TooLarge, Fails, lines_so_far}
 use Rattle.brisk_derivtext.specs.Texts.{text_of_lines, most_bytes}
 use Rattle.brisk_derivtext.proofs.Differ.{line_unended}

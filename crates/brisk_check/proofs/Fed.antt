@@ -10,7 +10,8 @@ use Rattle.brisk_print.specs.Layout.{Text}
 use Rattle.brisk_syntax.specs.declared.program.Program.{Program}
 use Rattle.brisk_rules.specs.Derives.{outcome}
 use Rattle.brisk_loops.specs.Walk as walk
-use Rattle.brisk_derivtext.specs.Lines.{Line, line_text, IsLegal, BeginsWith}
+use Rattle.brisk_derivtext.specs.declared.line.Line.{Line}
+use Rattle.brisk_derivtext.specs.Lines.{line_text, IsLegal, BeginsWith}
 use Rattle.brisk_derivtext.specs.Reading.{Reading, start, NoLine, TooLong, next, bounded, read_line, read_all, ComesTo, TextFault, AtLine, TooLarge, FailsBehind, lines_around, lines_so_far}
 use Rattle.brisk_derivtext.specs.Texts.{text_of_lines, lines_of}
 use Rattle.brisk_derivtext.proofs.Differ.{line_unended, lines_differ}

@@ -5,7 +5,10 @@ use Rattle.brisk_values.specs.Names.{Name}
 use Rattle.brisk_derivation.specs.Depths.{steps_depth}
 use Rattle.brisk_derivation.specs.Steps.{Steps}
 use Rattle.brisk_loops.specs.Walk.{Call}
-use Rattle.brisk_derivtext.specs.Lines.{Format, Format1, Format2, Line, Head, Plain, Fork, Enter, Else, Join, Close, End, Part, EndPart, Use}
+use Rattle.brisk_derivtext.specs.declared.line.Format.{Format}
+use Rattle.brisk_derivtext.specs.declared.line.Format.TheVariants.{Format1, Format2}
+use Rattle.brisk_derivtext.specs.declared.line.Line.{Line}
+use Rattle.brisk_derivtext.specs.declared.line.Line.TheVariants.{Head, Plain, Fork, Enter, Else, Join, Close, End, Part, EndPart, Use}
 use Rattle.brisk_derivtext.specs.Reading.{Open, Body, empty, put, ◌then◌, lines_around, lines_so_far, Reading, start, with_body, with_steps, part_named, used, is_empty, is_whole, part_ended, behind_head, at_head, in_format, next}
 use Rattle.brisk_derivtext.specs.Texts.{lines_of, most_nested}
 use Rattle.brisk_derivtext.proofs.Putting.{grows, lines_then}

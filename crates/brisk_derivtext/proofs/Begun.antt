@@ -4,7 +4,10 @@ use Rattle.std.specs.Prelude.{if◌then◌else◌, Ok}
 use Rattle.std.specs.List.{AllByRecursion}
 use Rattle.brisk_derivation.specs.Depths.{steps_depth}
 use Rattle.brisk_derivation.specs.Steps.{Branch, Steps, no_steps, ◌▷◌}
-use Rattle.brisk_derivtext.specs.Lines.{Format1, Format2, Line, Head, Plain, Fork, Enter, Else, Join, Close, End, Part, EndPart, Use, IsLegal}
+use Rattle.brisk_derivtext.specs.declared.line.Format.TheVariants.{Format1, Format2}
+use Rattle.brisk_derivtext.specs.declared.line.Line.{Line}
+use Rattle.brisk_derivtext.specs.declared.line.Line.TheVariants.{Head, Plain, Fork, Enter, Else, Join, Close, End, Part, EndPart, Use}
+use Rattle.brisk_derivtext.specs.Lines.{IsLegal}
 use Rattle.brisk_derivtext.specs.Laws.{LinesBegin, BeginningsStand}
 use Rattle.brisk_derivtext.specs.Reading.{Open, InLoop, InFirst, InSecond, Body, empty, put, ◌then◌, around, lines_so_far, Reading, start, with_steps, is_empty, in_format, within_bytes, bounded, and_then, read_line, read_all}
 use Rattle.brisk_derivtext.specs.Texts.{lines_of, derivation_lines, most_nested}

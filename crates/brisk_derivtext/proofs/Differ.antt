@@ -17,7 +17,12 @@ use Rattle.brisk_lines.specs.Pieces.{differs, Lacks, Begins}
 use Rattle.brisk_lines.proofs.Cuts.{cut_once, clash}
 use Rattle.brisk_lines.proofs.Decimals.{decimal_same}
 use Rattle.brisk_lines.proofs.Plain.{name_lacks, both_lack, decimal_lacks}
-use Rattle.brisk_derivtext.specs.Lines.{Format1, Format2, Loop, While, For, Repeat, Gather, Pick, Line, Head, Plain, Fork, Enter, Else, Join, Close, End, Part, EndPart, Use, fact_text, drop_words, first_word, more_words, spaced, line_text, IsLegalFact, IsLegalBasic, IsLegalLoop, IsLegal}
+use Rattle.brisk_derivtext.specs.declared.line.Format.TheVariants.{Format1, Format2}
+use Rattle.brisk_derivtext.specs.declared.line.Loop.{Loop}
+use Rattle.brisk_derivtext.specs.declared.line.Loop.TheVariants.{While, For, Repeat, Gather, Pick}
+use Rattle.brisk_derivtext.specs.declared.line.Line.{Line}
+use Rattle.brisk_derivtext.specs.declared.line.Line.TheVariants.{Head, Plain, Fork, Enter, Else, Join, Close, End, Part, EndPart, Use}
+use Rattle.brisk_derivtext.specs.Lines.{fact_text, drop_words, first_word, more_words, spaced, line_text, IsLegalFact, IsLegalBasic, IsLegalLoop, IsLegal}
 use Rattle.brisk_derivtext.specs.Laws.{LinesDiffer, LinesAreCut}
 
 -- ---- words lack the space and byte 10

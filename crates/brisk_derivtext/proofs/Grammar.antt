@@ -7,7 +7,11 @@ use Rattle.brisk_values.specs.Names.{Name}
 use Rattle.brisk_derivation.specs.Depths.{steps_depth, step_depth}
 use Rattle.brisk_derivation.specs.Steps.{Basic, Branch, Steps, no_steps, ◌▷◌}
 use Rattle.brisk_derivtext.specs.Laws.{ReadIsGrammar}
-use Rattle.brisk_derivtext.specs.Lines.{Format1, Format2, Loop, Line, Head, Plain, Fork, Enter, Else, Join, Close, End, Part, EndPart, Use, IsLegal}
+use Rattle.brisk_derivtext.specs.declared.line.Format.TheVariants.{Format1, Format2}
+use Rattle.brisk_derivtext.specs.declared.line.Loop.{Loop}
+use Rattle.brisk_derivtext.specs.declared.line.Line.{Line}
+use Rattle.brisk_derivtext.specs.declared.line.Line.TheVariants.{Head, Plain, Fork, Enter, Else, Join, Close, End, Part, EndPart, Use}
+use Rattle.brisk_derivtext.specs.Lines.{IsLegal}
 use Rattle.brisk_derivtext.specs.Parts.{Place, Step, Forked, Looped, Used, Places, nowhere, ◌⊳◌, place_lines, places_lines, both_steps, forked, put_in, in_place, Written, part_lines, parts_lines, AreWithin, PartsStand, IsText2}
 use Rattle.brisk_derivtext.specs.Reading.{Ended, Reading, start, part_named, used, with_steps, around, ◌then◌, Open, InLoop, InFirst, InSecond, Body, empty, add, in_rule, second_side, joined, closed, is_empty, put, lines_around, lines_so_far, within_bytes, bounded, and_then, read_line, read_all}
 use Rattle.brisk_derivtext.specs.Texts.{text_of_lines, lines_of, most_nested, AreFew}

@@ -6,7 +6,10 @@ use Rattle.brisk_values.specs.Names.{Name}
 use Rattle.brisk_derivation.specs.Depths.{steps_depth}
 use Rattle.brisk_derivation.specs.Steps.{Basic, Branch, Steps, no_steps, ◌▷◌}
 use Rattle.brisk_derivtext.specs.Laws.{GrammarIsRead}
-use Rattle.brisk_derivtext.specs.Lines.{Format2, Loop, Line, Head, Plain, Fork, Enter, Else, Join, Close, End, EndPart, Use}
+use Rattle.brisk_derivtext.specs.declared.line.Format.TheVariants.{Format2}
+use Rattle.brisk_derivtext.specs.declared.line.Loop.{Loop}
+use Rattle.brisk_derivtext.specs.declared.line.Line.{Line}
+use Rattle.brisk_derivtext.specs.declared.line.Line.TheVariants.{Head, Plain, Fork, Enter, Else, Join, Close, End, EndPart, Use}
 use Rattle.brisk_derivtext.specs.Parts.{Place, Step, Forked, Looped, Used, Places, nowhere, ◌⊳◌, place_lines, places_lines, both_steps, forked, put_in, in_place, Written, part_lines, parts_lines, AreWithin, PartsStand}
 use Rattle.brisk_derivtext.specs.Reading.{Ended, Reading, part_named, used, with_steps, around, ◌then◌, Open, InLoop, InFirst, InSecond, Body, empty, add, in_rule, put, lines_around, lines_so_far, bounded, and_then, read_all}
 use Rattle.brisk_derivtext.specs.Texts.{lines_of, most_nested, AreFew}

@@ -6,7 +6,11 @@ use Rattle.std.proofs.lemmas.Bool.{le-ltb, ltb-false}
 use Rattle.brisk_values.specs.Names.{Name}
 use Rattle.brisk_derivation.specs.Depths.{steps_depth}
 use Rattle.brisk_derivation.specs.Steps.{Steps}
-use Rattle.brisk_derivtext.specs.Lines.{Format, Format1, Format2, Line, Head, Plain, Fork, Enter, Else, Join, Close, End, Part, EndPart, Use, line_text, IsLegal}
+use Rattle.brisk_derivtext.specs.declared.line.Format.{Format}
+use Rattle.brisk_derivtext.specs.declared.line.Format.TheVariants.{Format1, Format2}
+use Rattle.brisk_derivtext.specs.declared.line.Line.{Line}
+use Rattle.brisk_derivtext.specs.declared.line.Line.TheVariants.{Head, Plain, Fork, Enter, Else, Join, Close, End, Part, EndPart, Use}
+use Rattle.brisk_derivtext.specs.Lines.{line_text, IsLegal}
 use Rattle.brisk_derivtext.specs.Laws.{WrittenIsRead, ReadIsWritten, TextsDiffer}
 use Rattle.brisk_derivtext.specs.Reading.{◌then◌, Open, Body, empty, put, lines_around, lines_so_far, Ended, Reading, start, with_body, with_steps, is_empty, is_whole, part_ended, part_named, used, at_head, behind_head, in_format, next, TooLong, within_bytes, bounded, and_then, read_line, read_all, ComesTo}
 use Rattle.brisk_derivtext.specs.Texts.{text_of_lines, lines_of, derivation_lines, most_bytes, most_nested, AreFew, HasText}

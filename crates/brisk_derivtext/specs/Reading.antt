@@ -6,7 +6,13 @@ use Rattle.brisk_values.specs.Names.{Name, same_name}
 use Rattle.brisk_derivation.specs.Depths.{steps_depth}
 use Rattle.brisk_derivation.specs.Steps.{Step, Basic, Branch, Steps, no_steps, ◌▷◌}
 use Rattle.brisk_derivation.specs.Steps as tree
-use Rattle.brisk_derivtext.specs.Lines.{Format, Format2, Loop, While, For, Repeat, Gather, Pick, Line, Head, Plain, Fork, Enter, Else, Join, Close, End, Part, EndPart, Use, IsLegal, BeginsWith}
+use Rattle.brisk_derivtext.specs.declared.line.Format.{Format}
+use Rattle.brisk_derivtext.specs.declared.line.Format.TheVariants.{Format2}
+use Rattle.brisk_derivtext.specs.declared.line.Loop.{Loop}
+use Rattle.brisk_derivtext.specs.declared.line.Loop.TheVariants.{While, For, Repeat, Gather, Pick}
+use Rattle.brisk_derivtext.specs.declared.line.Line.{Line}
+use Rattle.brisk_derivtext.specs.declared.line.Line.TheVariants.{Head, Plain, Fork, Enter, Else, Join, Close, End, Part, EndPart, Use}
+use Rattle.brisk_derivtext.specs.Lines.{IsLegal, BeginsWith}
 use Rattle.brisk_derivtext.specs.Texts.{text_of_lines, lines_of, most_nested, most_bytes}
 
 -- ---- steps

@@ -99,8 +99,7 @@ behind_head : (ls : List Line) (r : Reading) (ended : Bool) → r.ended ≡ ende
 behind_head ls r false e h f p =
     let c = unended ls false empty r e p in
     let g = goes_on r.body.entered r.body.steps (all_nested ls empty r.body (omega arith, tt) c) in
-    let lines : ls ++ g.more ≡ lines_of g.steps = ap (λ z. z ++ g.more) (sym (all_grow ls empty r.body c)) ∙ g.lines in
-    (
+    let lines : ls ++ g.more ≡ lines_of g.steps = ap (λ z. z ++ g.more) (sym (all_grow ls empty r.body c)) ∙ g.lines in (
       g.steps,
       g.more ++ End ∷ [],
       ap (λ z. Head Format1 ∷ z) (sym (append_assoc ls g.more (End ∷ [])) ∙ ap (λ z. z ++ End ∷ []) lines),
@@ -110,8 +109,7 @@ behind_head ls r false e h f p =
 behind_head ls r true e h f p =
     let t = takes ls false empty r e p in
     let deep = (all_nested t.inner empty r.body (omega arith, tt) t.put).0 in
-    let inner : t.inner ≡ lines_of r.body.steps = sym (all_grow t.inner empty r.body t.put) ∙ ap (λ z. lines_so_far (record { entered = z; steps = r.body.steps })) t.closed in
-    (
+    let inner : t.inner ≡ lines_of r.body.steps = sym (all_grow t.inner empty r.body t.put) ∙ ap (λ z. lines_so_far (record { entered = z; steps = r.body.steps })) t.closed in (
       r.body.steps,
       [],
       ap (λ z. Head Format1 ∷ z) (append-nil ls ∙ t.parts ∙ ap (λ z. z ++ End ∷ []) inner),

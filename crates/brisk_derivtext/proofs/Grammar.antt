@@ -228,10 +228,10 @@ part_ends n ls ps m b h sofar true k e nested few s p more =
     let none = none_entered b.entered k in
     let w : Written = record { name = n; places = s.4.p } in
     let lines : sofar ++ EndPart ∷ [] ≡ parts_lines (s.0 ++ w ∷ []) ++ [] =
-        ap (λ z. z ++ EndPart ∷ []) (s.6 ∙ ap (λ z. parts_lines s.0 ++ Part n ∷ z) (whole_lines ps b s.1 s.4 none))
-        ∙ append_assoc (parts_lines s.0) (Part n ∷ places_lines s.4.p) (EndPart ∷ [])
-        ∙ sym (lines_more s.0 w)
-        ∙ sym (append-nil (parts_lines (s.0 ++ w ∷ []))) in
+    ap (λ z. z ++ EndPart ∷ []) (s.6 ∙ ap (λ z. parts_lines s.0 ++ Part n ∷ z) (whole_lines ps b s.1 s.4 none))
+    ∙ append_assoc (parts_lines s.0) (Part n ∷ places_lines s.4.p) (EndPart ∷ [])
+    ∙ sym (lines_more s.0 w)
+    ∙ sym (append-nil (parts_lines (s.0 ++ w ∷ []))) in
     regroup sofar EndPart ls h
     (more (record { name = n; steps = b.steps } ∷ ps) None m empty h (sofar ++ EndPart ∷ []) e (omega arith, tt) (omega arith)
     (s.0 ++ w ∷ [], [], parts_more [] ps s.0 w b.steps s.2 s.3 s.4.steps (whole_within b none nested few), empty_body (record { name = n; steps = b.steps } ∷ ps), λ z. refl, lines) p)

@@ -63,8 +63,7 @@ loop_as ps r xs a inner pt m b more h few =
     let last : Body = add b (around r a) in
     let n = m || is_none pt in
     let few_inner = few_line Close (behind_body inside a) last refl few in
-    let p = inner pt n inside (Close ∷ more) (omega arith) few_inner in
-    (
+    let p = inner pt n inside (Close ∷ more) (omega arith) few_inner in (
       p.0 || is_none pt,
       λ k e. or_false p.0 (is_none pt) k (p.1 k (or_false m (is_none pt) k e)),
       one_line ps pt m b inside (Enter r) ((xs ++ Close ∷ []) ++ more) (in_so b (InLoop b.steps r) (omega arith)) (few_before inside a few_inner)
@@ -83,8 +82,7 @@ fork_as ps t xs ys a c one two pt m b more h few =
     let few1 = few_line Else (behind_body inside a) beyond refl few_beyond in
     let n = m || is_none pt in
     let p = one pt n inside (Else ∷ ((ys ++ Join ∷ []) ++ more)) (omega arith) few1 in
-    let q = two pt (p.0 || is_none pt) beyond (Join ∷ more) (omega arith) few2 in
-    (
+    let q = two pt (p.0 || is_none pt) beyond (Join ∷ more) (omega arith) few2 in (
       q.0 || is_none pt,
       λ k e. or_false q.0 (is_none pt) k (q.1 k (or_false p.0 (is_none pt) k (p.1 k (or_false m (is_none pt) k e)))),
       one_line ps pt m b inside (Fork t) ((xs ++ Else ∷ (ys ++ Join ∷ [])) ++ more) (in_so b (InFirst b.steps t) (omega arith)) (few_before inside a few1)
@@ -99,8 +97,7 @@ fork_as ps t xs ys a c one two pt m b more h few =
 use_as : (ps : List Ended) (k : Name) (a : Steps) → part_named k ps ≡ Some a → ReadAs ps (Use k ∷ []) a
 use_as ps k a e pt m b more h few =
     let r = reading Format2 ps pt m b in
-    let fits : used b (Some a) ≡ Some (behind_body b a) = ap (λ t. if t then None else Some (behind_body b a)) (le-ltb most_nested (length b.entered + steps_depth a) h) in
-    (
+    let fits : used b (Some a) ≡ Some (behind_body b a) = ap (λ t. if t then None else Some (behind_body b a)) (le-ltb most_nested (length b.entered + steps_depth a) h) in (
       m || is_none pt,
       or_false m (is_none pt),
       ap (λ z. and_then (bounded (with_steps r (used b z))) (read_all more)) e

@@ -16,6 +16,16 @@ abbrev pub text_of_lines : List Line → Text
 text_of_lines [] = []
 text_of_lines (l ∷ ls) = line_text l ++ 10 ∷ text_of_lines ls
 
+-- the first line of a step
+abbrev pub first_line : Step → Line
+first_line (Basic b) = Plain b
+first_line (Branch t a b) = Fork t
+first_line (tree.While t drops a) = Enter (While t drops)
+first_line (tree.For s ts drops a) = Enter (For s ts drops)
+first_line (tree.Repeat t drops a) = Enter (Repeat t drops)
+first_line (tree.Gather t drops a) = Enter (Gather t drops)
+first_line (tree.Pick t drops a) = Enter (Pick t drops)
+
 -- the lines of a step, and of steps one after another
 abbrev mutual
   pub lines_in : Step → List Line

@@ -14,7 +14,8 @@ use Rattle.brisk_derivtext.specs.Reading.{Reading, start, Trouble, NoLine, TooLo
 use Rattle.brisk_derivtext.specs.Texts.{text_of_lines, most_bytes}
 use Rattle.brisk_derivtext.proofs.Differ.{line_unended}
 use Rattle.brisk_derivtext.proofs.Once.{same_ok, first_read, same_begins}
-use Rattle.brisk_derivtext.proofs.Written.{HasFormat, next_has, some_bounded, texts_append}
+use Rattle.brisk_derivtext.proofs.Appended.{texts_append}
+use Rattle.brisk_derivtext.proofs.Written.{HasFormat, next_has, some_bounded}
 use Rattle.brisk_check.specs.Checking.{Reader, verdict, Verdict}
 use Rattle.brisk_check.specs.Laws.{IsReader, ToldFaultHolds, GivenVerdictHolds}
 use Rattle.brisk_check.proofs.Fed.{first_end, verdict_is_given, fault_is_told}

@@ -70,6 +70,9 @@ module _ (c : ℕ) (plain : is_plain c ≡ true) (low : c < 46) (dot : differs c
 pub no_space : (l : Line) → IsLegal l → AllByRecursion (Lacks 32) (more_words l)
 no_space = words_so 32 refl (omega arith) refl refl refl refl refl refl
 
+pub fact_no_space : (f : Fact) → IsLegalFact f → Lacks 32 (fact_text f)
+fact_no_space = fact_so 32 refl (omega arith) refl refl refl refl refl refl
+
 no_end : (l : Line) → IsLegal l → AllByRecursion (Lacks 10) (more_words l)
 no_end = words_so 10 refl (omega arith) refl refl refl refl refl refl
 
@@ -101,7 +104,7 @@ first_no_end l = refl
 
 -- ---- words are known by their text
 
-spaced_begins : (ws : List Text) → Begins 32 (spaced ws)
+pub spaced_begins : (ws : List Text) → Begins 32 (spaced ws)
 spaced_begins [] = tt
 spaced_begins (w ∷ ws) = refl
 

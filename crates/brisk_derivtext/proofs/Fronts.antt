@@ -1,5 +1,5 @@
 -- The words at the front of bytes.
-use Rattle.std.proofs.Common.{◌≡◌, ◌==◌, ◌<◌, ◌≤◌, ℕ, Bool, true, false, List, [], ◌∷◌, ◌++◌, map, length, Option, Some, None, refl, sym, ap, subst, ◌∙◌, append_assoc, append-nil, length-append, arith}
+use Rattle.std.proofs.Common.{◌≡◌, ◌==◌, ◌<◌, ◌≤◌, ℕ, Bool, true, false, not, List, [], ◌∷◌, ◌++◌, map, length, Option, Some, None, refl, sym, ap, subst, ◌∙◌, append_assoc, append-nil, length-append, arith}
 use Rattle.std.proofs.lemmas.List.{map-append}
 use Rattle.std.specs.Prelude.{codes}
 use Rattle.std.specs.Option.{MatchOption}
@@ -11,13 +11,13 @@ use Rattle.brisk_lex.specs.Spelled.{IsName}
 use Rattle.brisk_lines.specs.Pieces.{differs, Lacks, Begins, IsCut}
 use Rattle.brisk_lines.proofs.Cuts.{clash, cut_once}
 use Rattle.brisk_lines.proofs.Decimals.{decimal_same}
-use Rattle.brisk_lines.proofs.Plain.{name_lacks}
+use Rattle.brisk_lines.proofs.Plain.{decimal_lacks, name_lacks}
 use Rattle.brisk_print.specs.Layout.{Text}
 use Rattle.brisk_values.specs.Names.{Name, same_name}
 use Rattle.brisk_values.proofs.Changes.{name_laws, exact_name}
 use Rattle.brisk_derivation.specs.declared.steps.Fact.{Fact}
-use Rattle.brisk_derivtext.specs.Lines.{fact_text, spaced, IsLegalFact}
-use Rattle.brisk_derivtext.specs.Pieces.{facts_text, message_text, owners_text, AreNames, AreOwners, BeginsWithFact, BeginsWithName, BeginsWithWord, IsMessage, NoNameFollows}
+use Rattle.brisk_derivtext.specs.Lines.{drop_words, fact_text, spaced, IsLegalFact}
+use Rattle.brisk_derivtext.specs.Pieces.{facts_text, fill_text, for_text, message_text, owners_text, rule_text, AreNames, AreOwners, BeginsWithFact, BeginsWithName, BeginsWithWord, IsFill, IsFor, IsMessage, IsRule, NoNameFollows}
 use Rattle.brisk_derivtext.proofs.Appended.{spaced_append}
 use Rattle.brisk_derivtext.proofs.Drop.{drop_is_name}
 use Rattle.brisk_derivtext.proofs.Differ.{fact_no_space, spaced_begins}
@@ -204,3 +204,49 @@ same_word a b e = exact_name a b (sym e)
 
 pub other_word : (a b : Text) → false ≡ same_name a b → a ≡ b → ⊥
 other_word a b e h = let wrong : false ≡ true = e ∙ ap (λ z. same_name z b) h ∙ name_laws.refl b in cc
+
+-- ---- the words of a fill, a rule and a `for`
+
+pub fill_words : {b w1 m1 w2 m2 w3 m3 w4 m4 : Text} → BeginsWithWord b w1 m1 → BeginsWithWord m1 w2 m2 → BeginsWithWord m2 w3 m3 → BeginsWithWord m3 w4 m4 → (f : Name × Name × Name × ℕ) → IsFill f → b ≡ fill_text f → (w1 ≡ f.0) × (w2 ≡ f.1) × (w3 ≡ f.2) × (w4 ≡ decimal f.3) × (m4 ≡ [])
+fill_words h1 h2 h3 h4 f legal e =
+    let few = legal.4 in
+    let e1 = one_word h1 (record { whole = e; word = name_no_space f.0 legal.0; ends = refl }) in
+    let e2 = one_word h2 (record { whole = e1.1; word = name_no_space f.1 legal.1; ends = refl }) in
+    let e3 = one_word h3 (record { whole = e2.1; word = name_no_space f.2 legal.2; ends = refl }) in
+    let e4 = one_word h4 (record { whole = e3.1; word = decimal_lacks 32 (omega arith) f.3 (omega (arith, few)); ends = tt }) in
+    (e1.0, e2.0, e3.0, e4.0, e4.1)
+
+pub fill_third : {b w1 m1 w2 m2 : Text} → BeginsWithWord b w1 m1 → BeginsWithWord m1 w2 m2 → (f : Name × Name × Name × ℕ) → IsFill f → b ≡ fill_text f → m2 ≡ spaced (f.2 ∷ decimal f.3 ∷ [])
+fill_third h1 h2 f legal e =
+    let e1 = one_word h1 (record { whole = e; word = name_no_space f.0 legal.0; ends = refl }) in
+    (one_word h2 (record { whole = e1.1; word = name_no_space f.1 legal.1; ends = refl })).1
+
+pub fill_fourth : {b w1 m1 w2 m2 w3 m3 : Text} → BeginsWithWord b w1 m1 → BeginsWithWord m1 w2 m2 → BeginsWithWord m2 w3 m3 → (f : Name × Name × Name × ℕ) → IsFill f → b ≡ fill_text f → m3 ≡ spaced (decimal f.3 ∷ [])
+fill_fourth h1 h2 h3 f legal e = (one_word h3 (record { whole = fill_third h1 h2 f legal e; word = name_no_space f.2 legal.2; ends = refl })).1
+
+pub rule_words : {b w m : Text} → BeginsWithWord b w m → (p : Name × List Fact) → IsRule p → b ≡ rule_text p → (w ≡ p.0) × (m ≡ owners_text ([], p.1))
+rule_words h p legal e = one_word h (record { whole = e; word = name_no_space p.0 legal.0; ends = refl })
+
+pub for_name : {b w m : Text} → BeginsWithWord b w m → (p : Name × List Name × List Fact) → IsFor p → b ≡ for_text p → (w ≡ p.0) × (m ≡ spaced (codes "by" ∷ (p.1 ++ drop_words p.2)))
+for_name h p legal e = one_word h (record { whole = e; word = name_no_space p.0 legal.0; ends = refl })
+
+pub for_words : {b w m v n : Text} → BeginsWithWord b w m → BeginsWithWord m v n → (p : Name × List Name × List Fact) → IsFor p → b ≡ for_text p → (w ≡ p.0) × (v ≡ codes "by") × (n ≡ owners_text (p.1, p.2))
+for_words h k p legal e =
+    let one = one_word h (record { whole = e; word = name_no_space p.0 legal.0; ends = refl }) in
+    let two = one_word k (record { whole = one.1; word = refl; ends = spaced_begins (p.1 ++ drop_words p.2) }) in
+    (one.0, two.0, two.1)
+
+no_front : (ns : List Name) (t : Name) → ns ++ t ∷ [] ≡ t ∷ [] → ns ≡ []
+no_front [] t e = refl
+no_front (n ∷ ns) t e = absurd (let k = ap length e in let l = length-append ns (t ∷ []) in omega (arith, k, l))
+
+-- where there are no owners, none are read
+pub owners_none : (ns : List Name) (F G : List Fact) → AreOwners (ns, F) → AllByRecursion IsLegalFact G → owners_text (ns, F) ≡ owners_text ([], G) → ns ≡ []
+owners_none ns F G h k e =
+    let names = all_append IsName ns (codes "drop") h.0 drop_is_name in
+    let one = names_same (ns ++ codes "drop" ∷ []) (codes "drop" ∷ []) (facts_text F) (facts_text G) names (drop_is_name, tt) (spaced_begins (map fact_text F)) (spaced_begins (map fact_text G)) (no_name_in_facts F h.1) (no_name_in_facts G k) (sym (owners_cut (ns, F)) ∙ e ∙ owners_cut ([], G)) in
+    no_front ns (codes "drop") one.0
+
+pub not_not : (b : Bool) → true ≡ not b → false ≡ b
+not_not true e = sym e
+not_not false e = refl

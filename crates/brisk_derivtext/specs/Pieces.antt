@@ -1,6 +1,7 @@
 -- The pieces of lines that are read one after another.
-use Rattle.std.specs.Prelude.{◌≡◌, ◌≤◌, Bool, true, false, ℕ, List, [], ◌∷◌, ◌++◌, map}
+use Rattle.std.specs.Prelude.{◌≡◌, ◌≤◌, Bool, true, false, ℕ, List, [], ◌∷◌, ◌++◌, map, codes}
 use Rattle.std.specs.List.{AllByRecursion}
+use Rattle.std.specs.Fmt.{decimal}
 use Rattle.brisk_lex.specs.Spelled.{IsName}
 use Rattle.brisk_lines.specs.Pieces.{Lacks, Begins}
 use Rattle.brisk_print.specs.Layout.{Text}
@@ -41,6 +42,13 @@ message_text m = spaced (m.0 ∷ m.1 ∷ m.2 ∷ [])
 abbrev pub IsMessage : Name × Name × Name → Type 0
 IsMessage m = IsName m.0 × IsName m.1 × IsName m.2
 
+-- the same, and the number of a box
+abbrev pub fill_text : Name × Name × Name × ℕ → Text
+fill_text f = spaced (f.0 ∷ f.1 ∷ f.2 ∷ decimal f.3 ∷ [])
+
+abbrev pub IsFill : Name × Name × Name × ℕ → Type 0
+IsFill f = IsName f.0 × IsName f.1 × IsName f.2 × (1 ≤ f.3) × (f.3 ≤ 1000000)
+
 -- as many names as there are, and what stands behind them
 pub record AreNames (b : Text) (ts : List Name) (more : Text) : Type 0 where
   pub whole : b ≡ spaced ts ++ more
@@ -65,6 +73,13 @@ rule_text p = spaced (p.0 ∷ drop_words p.1)
 
 abbrev pub IsRule : Name × List Fact → Type 0
 IsRule p = IsName p.0 × AllByRecursion IsLegalFact p.1
+
+-- a set, the word `by`, owners, the word `drop`, and facts
+abbrev pub for_text : Name × List Name × List Fact → Text
+for_text p = spaced (p.0 ∷ codes "by" ∷ (p.1 ++ drop_words p.2))
+
+abbrev pub IsFor : Name × List Name × List Fact → Type 0
+IsFor p = IsName p.0 × AllByRecursion IsName p.1 × AllByRecursion IsLegalFact p.2
 
 -- the number of a box
 abbrev pub IsBox : ℕ → Type 0

@@ -6,7 +6,7 @@ ghost use Rattle.brisk_lex.specs.Spelled.{IsName};
 ghost use Rattle.brisk_lines.specs.Lines.{Reads, IsShort};
 ghost use Rattle.brisk_lines.specs.Pieces.{Begins, IsCut};
 ghost use Rattle.brisk_derivtext.specs.Lines.{fact_text, spaced, IsLegalFact};
-ghost use Rattle.brisk_derivtext.specs.Pieces.{facts_text, message_text, owners_text, AreNames, AreOwners, BeginsWithWord, IsBox, IsMessage};
+ghost use Rattle.brisk_derivtext.specs.Pieces.{facts_text, fill_text, for_text, message_text, owners_text, rule_text, AreNames, AreOwners, BeginsWithWord, IsBox, IsFill, IsFor, IsMessage, IsRule};
 
 use brisk_derivation::{Drops, Fact};
 use brisk_lex::name_in;
@@ -162,4 +162,63 @@ pub fn owners(alloc: Global, bytes: &[u8]) -> Result<Option<(Names, Drops)>, NoM
     } else {
         Ok(None)
     }
+}
+
+/// A sender, a receiver, a channel and the number of a box.
+pub fn fill(bytes: &[u8]) -> Option<(Name, Name, Name, u32)>
+    ensures { Reads fill_text IsFill bytes.now result }
+{
+    let (sender, rest) = first_word(bytes)?;
+    let (receiver, rest) = first_word(rest)?;
+    let (channel, rest) = first_word(rest)?;
+    let (number, rest) = first_word(rest)?;
+    if !rest.is_empty() {
+        return None;
+    }
+    let sender = name_in(sender)?;
+    let receiver = name_in(receiver)?;
+    let channel = name_in(channel)?;
+    Some((sender, receiver, channel, box_in(number)?))
+}
+
+/// A name, the word `drop`, and the facts that are dropped.
+pub fn rule(alloc: Global, bytes: &[u8]) -> Result<Option<(Name, Drops)>, NoMemory>
+    ensures { IfOk result (λ o. Reads rule_text IsRule bytes.now o) }
+{
+    let Some((word, rest)) = first_word(bytes) else {
+        return Ok(None);
+    };
+    let Some(name) = name_in(word) else {
+        return Ok(None);
+    };
+    let Some((names, drops)) = owners(alloc, rest)? else {
+        return Ok(None);
+    };
+    if names.items.is_empty() {
+        Ok(Some((name, drops)))
+    } else {
+        Ok(None)
+    }
+}
+
+/// A set, the word `by`, owners, the word `drop`, and the facts that are dropped.
+pub fn for_rule(alloc: Global, bytes: &[u8]) -> Result<Option<(Name, Names, Drops)>, NoMemory>
+    ensures { IfOk result (λ o. Reads for_text IsFor bytes.now o) }
+{
+    let Some((word, rest)) = first_word(bytes) else {
+        return Ok(None);
+    };
+    let Some(set) = name_in(word) else {
+        return Ok(None);
+    };
+    let Some((word, rest)) = first_word(rest) else {
+        return Ok(None);
+    };
+    if word != b"by".as_slice() {
+        return Ok(None);
+    }
+    let Some((names, drops)) = owners(alloc, rest)? else {
+        return Ok(None);
+    };
+    Ok(Some((set, names, drops)))
 }

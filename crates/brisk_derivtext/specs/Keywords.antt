@@ -1,5 +1,5 @@
 -- The first words of lines.
-use Rattle.std.specs.Prelude.{if◌then◌else◌, List, [], ◌∷◌, Option, Some, None, codes}
+use Rattle.std.specs.Prelude.{if◌then◌else◌, Bool, true, false, List, [], ◌∷◌, Option, Some, None, codes}
 use Rattle.brisk_print.specs.Layout.{Text}
 use Rattle.brisk_values.specs.Names.{same_name}
 use Rattle.brisk_derivation.specs.declared.steps.BasicStep.TheVariants as basic
@@ -81,3 +81,35 @@ keywords =
     ∷ (codes "endpart", keyword.EndPart)
     ∷ (codes "use", keyword.Use)
     ∷ []
+
+-- one name stands behind it
+abbrev pub is_named : Keyword → Bool
+is_named keyword.Assign = true
+is_named keyword.Known = true
+is_named keyword.Branch = true
+is_named keyword.Part = true
+is_named keyword.Use = true
+is_named k = false
+
+-- a sender, a receiver and a channel stand behind it
+abbrev pub is_sent : Keyword → Bool
+is_sent keyword.Pass = true
+is_sent keyword.Take = true
+is_sent k = false
+
+-- nothing stands behind it
+abbrev pub is_bare : Keyword → Bool
+is_bare keyword.Else = true
+is_bare keyword.Join = true
+is_bare keyword.Close = true
+is_bare keyword.End = true
+is_bare keyword.EndPart = true
+is_bare k = false
+
+-- a name and the facts that are dropped stand behind it
+abbrev pub is_dropping : Keyword → Bool
+is_dropping keyword.While = true
+is_dropping keyword.Repeat = true
+is_dropping keyword.Gather = true
+is_dropping keyword.Pick = true
+is_dropping k = false

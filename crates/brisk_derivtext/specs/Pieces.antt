@@ -1,5 +1,5 @@
 -- The pieces of lines that are read one after another.
-use Rattle.std.specs.Prelude.{◌≡◌, ◌≤◌, Bool, true, false, ℕ, List, [], ◌∷◌, ◌++◌, map, codes}
+use Rattle.std.specs.Prelude.{◌≡◌, ◌≤◌, ℕ, List, [], ◌∷◌, ◌++◌, map, codes}
 use Rattle.std.specs.List.{AllByRecursion}
 use Rattle.std.specs.Fmt.{decimal}
 use Rattle.brisk_lex.specs.Spelled.{IsName}
@@ -8,7 +8,6 @@ use Rattle.brisk_print.specs.Layout.{Text}
 use Rattle.brisk_values.specs.Names.{Name}
 use Rattle.brisk_derivation.specs.declared.steps.Fact.{Fact}
 use Rattle.brisk_derivtext.specs.declared.keyword.Keyword.{Keyword}
-use Rattle.brisk_derivtext.specs.declared.keyword.Keyword.TheVariants as keyword
 use Rattle.brisk_derivtext.specs.declared.line.Line.{Line}
 use Rattle.brisk_derivtext.specs.Keywords.{keyword_of}
 use Rattle.brisk_derivtext.specs.Lines.{drop_words, fact_text, more_words, spaced, IsLegal, IsLegalFact}
@@ -92,12 +91,3 @@ tail_text l = spaced (more_words l)
 -- a legal line that begins so
 abbrev pub IsOf : Keyword → Line → Type 0
 IsOf k l = IsLegal l × (keyword_of l ≡ k)
-
--- facts may be dropped by a line that begins so
-abbrev pub takes_drops : Keyword → Bool
-takes_drops keyword.While = true
-takes_drops keyword.For = true
-takes_drops keyword.Repeat = true
-takes_drops keyword.Gather = true
-takes_drops keyword.Pick = true
-takes_drops k = false

@@ -1,5 +1,5 @@
 -- What stands behind the first word of a line, by this word.
-use Rattle.std.proofs.Common.{◌≡◌, Bool, true, false, ℕ, List, ◌++◌, Option, Some, None, refl, sym, ap, subst, ◌∙◌}
+use Rattle.std.proofs.Common.{◌≡◌, true, ℕ, List, ◌++◌, Option, Some, None, refl, sym, ap, ◌∙◌}
 use Rattle.brisk_lines.specs.Lines.{Reads}
 use Rattle.brisk_lines.specs.Pieces.{IsCut}
 use Rattle.brisk_lines.proofs.Cuts.{cut_once}
@@ -11,7 +11,7 @@ use Rattle.brisk_derivtext.specs.declared.keyword.Keyword.{Keyword}
 use Rattle.brisk_derivtext.specs.declared.keyword.Keyword.TheVariants as keyword
 use Rattle.brisk_derivtext.specs.declared.line.Loop.TheVariants.{While, For, Repeat, Gather, Pick}
 use Rattle.brisk_derivtext.specs.declared.line.Line.{Line}
-use Rattle.brisk_derivtext.specs.declared.line.Line.TheVariants.{Head, Plain, Fork, Enter, Else, Join, Close, End, Part, EndPart, Use}
+use Rattle.brisk_derivtext.specs.declared.line.Line.TheVariants.{Plain, Enter}
 use Rattle.brisk_derivtext.specs.Keywords.{keyword_of, keyword_text, is_dropping, is_sent}
 use Rattle.brisk_derivtext.specs.Lines.{first_word, line_text, more_words, IsLegal}
 use Rattle.brisk_derivtext.specs.Pieces.{fill_text, for_text, message_text, rule_text, tail_text, IsFill, IsFor, IsMessage, IsOf, IsRule}

@@ -1,5 +1,5 @@
 -- The words at the front of bytes.
-use Rattle.std.proofs.Common.{◌≡◌, ◌==◌, ◌<◌, ◌≤◌, ℕ, Bool, true, false, not, List, [], ◌∷◌, ◌++◌, map, length, Option, Some, None, refl, sym, ap, subst, ◌∙◌, append_assoc, append-nil, length-append, arith}
+use Rattle.std.proofs.Common.{◌≡◌, ◌==◌, ℕ, Bool, true, false, not, List, [], ◌∷◌, ◌++◌, map, length, Option, None, refl, sym, ap, subst, ◌∙◌, append_assoc, append-nil, length-append, arith}
 use Rattle.std.proofs.lemmas.List.{map-append}
 use Rattle.std.specs.Prelude.{codes}
 use Rattle.std.specs.Option.{MatchOption}
@@ -10,7 +10,6 @@ use Rattle.std.specs.Fmt.{decimal}
 use Rattle.brisk_lex.specs.Spelled.{IsName}
 use Rattle.brisk_lines.specs.Pieces.{differs, Lacks, Begins, IsCut}
 use Rattle.brisk_lines.proofs.Cuts.{clash, cut_once}
-use Rattle.brisk_lines.proofs.Decimals.{decimal_same}
 use Rattle.brisk_lines.proofs.Plain.{decimal_lacks, name_lacks}
 use Rattle.brisk_print.specs.Layout.{Text}
 use Rattle.brisk_values.specs.Names.{Name, same_name}

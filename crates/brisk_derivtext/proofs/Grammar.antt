@@ -1,19 +1,18 @@
 -- What is read in format 2 is a text by its grammar.
-use Rattle.std.proofs.Common.{◌≡◌, ◌≤◌, ◌<◌, ◌+◌, ℕ, max, Bool, true, false, not, ◌||◌, ◌&&◌, List, [], ◌∷◌, ◌++◌, length, Option, Some, None, refl, sym, ap, subst, ◌∙◌, append_assoc, append-nil, arith}
-use Rattle.std.specs.Prelude.{if◌then◌else◌, nat_lt, is_none, option_map, Result, Ok, Err}
+use Rattle.std.proofs.Common.{◌≡◌, ◌≤◌, ◌+◌, Bool, true, false, not, ◌||◌, ◌&&◌, List, [], ◌∷◌, ◌++◌, length, Option, Some, None, refl, sym, ap, subst, ◌∙◌, append_assoc, append-nil, arith}
+use Rattle.std.specs.Prelude.{if◌then◌else◌, nat_lt, is_none, option_map, Ok}
 use Rattle.std.specs.List.{AllByRecursion}
 use Rattle.std.proofs.lemmas.Bool.{ltb-false}
 use Rattle.brisk_values.specs.Names.{Name}
-use Rattle.brisk_derivation.specs.Depths.{steps_depth, step_depth}
+use Rattle.brisk_derivation.specs.Depths.{steps_depth}
 use Rattle.brisk_derivation.specs.Steps.{Basic, Branch, Steps, no_steps, ◌▷◌}
 use Rattle.brisk_derivtext.specs.Laws.{ReadIsGrammar}
 use Rattle.brisk_derivtext.specs.declared.line.Format.TheVariants.{Format1, Format2}
-use Rattle.brisk_derivtext.specs.declared.line.Loop.{Loop}
 use Rattle.brisk_derivtext.specs.declared.line.Line.{Line}
 use Rattle.brisk_derivtext.specs.declared.line.Line.TheVariants.{Head, Plain, Fork, Enter, Else, Join, Close, End, Part, EndPart, Use}
 use Rattle.brisk_derivtext.specs.Lines.{IsLegal}
-use Rattle.brisk_derivtext.specs.Parts.{Place, Step, Forked, Looped, Used, Places, nowhere, ◌⊳◌, place_lines, places_lines, both_steps, forked, put_in, in_place, Written, part_lines, parts_lines, AreWithin, PartsStand, IsText2}
-use Rattle.brisk_derivtext.specs.Reading.{Ended, Reading, start, part_named, used, with_steps, around, ◌then◌, Open, InLoop, InFirst, InSecond, Body, empty, add, in_rule, second_side, joined, closed, is_empty, put, lines_around, lines_so_far, within_bytes, bounded, and_then, read_line, read_all}
+use Rattle.brisk_derivtext.specs.Parts.{Place, Step, Forked, Looped, Used, Places, nowhere, ◌⊳◌, place_lines, places_lines, both_steps, forked, put_in, in_place, Written, part_lines, parts_lines, AreWithin, PartsStand}
+use Rattle.brisk_derivtext.specs.Reading.{Ended, Reading, start, part_named, used, with_steps, around, ◌then◌, Open, InLoop, InFirst, InSecond, Body, empty, in_rule, second_side, joined, closed, is_empty, put, lines_around, lines_so_far, within_bytes, bounded, and_then, read_all}
 use Rattle.brisk_derivtext.specs.Texts.{text_of_lines, lines_of, most_nested, AreFew}
 use Rattle.brisk_derivtext.proofs.Once.{same_some, same_ok, no_ok, first_read}
 use Rattle.brisk_derivtext.proofs.Putting.{then_nothing, then_assoc, depth_then, entered_inverse, IsNested, stays_nested, nothing_put, same_body}

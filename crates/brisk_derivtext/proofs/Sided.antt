@@ -1,12 +1,11 @@
 -- Lines of steps lead from where they stand to where they stand, whatever the steps are.
-use Rattle.std.proofs.Common.{◌≡◌, ℕ, Bool, true, false, List, [], ◌∷◌, length, map, Option, Some, None, refl, sym, ap, ◌∙◌}
+use Rattle.std.proofs.Common.{◌≡◌, Bool, true, false, List, [], ◌∷◌, length, map, Some, None, refl, sym, ap, ◌∙◌}
 use Rattle.std.specs.Prelude.{nat_lt, if◌then◌else◌, option_map}
 use Rattle.std.proofs.lemmas.List.{length-map}
 use Rattle.brisk_derivation.specs.Steps.{Steps, no_steps}
 use Rattle.brisk_derivtext.specs.declared.line.Line.{Line}
 use Rattle.brisk_derivtext.specs.declared.line.Line.TheVariants.{Head, Plain, Fork, Enter, Else, Join, Close, End, Part, EndPart, Use}
-use Rattle.brisk_derivtext.specs.declared.side.Side.{Side}
-use Rattle.brisk_derivtext.specs.declared.side.Side.TheVariants.{Premise, First, Second}
+use Rattle.brisk_derivtext.specs.declared.side.Side.TheVariants.{Premise, Second}
 use Rattle.brisk_derivtext.specs.Reading.{Open, InLoop, InFirst, InSecond, Body, in_rule, second_side, joined, closed, put}
 use Rattle.brisk_derivtext.specs.Sides.{side_of, sides_of, into, crossed, out_of, put_side}
 use Rattle.brisk_derivtext.specs.Texts.{most_nested}

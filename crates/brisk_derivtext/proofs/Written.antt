@@ -1,5 +1,5 @@
 -- What is written in format 1 is read back, and what is read in format 1 is a text of its steps.
-use Rattle.std.proofs.Common.{◌≡◌, ◌≤◌, ◌+◌, Bool, true, false, not, ◌||◌, ◌&&◌, List, [], ◌∷◌, ◌++◌, length, Option, Some, None, refl, sym, ap, subst, ◌∙◌, append_assoc, length-append, arith}
+use Rattle.std.proofs.Common.{◌≡◌, ◌≤◌, ◌+◌, Bool, true, false, not, ◌||◌, ◌&&◌, List, [], ◌∷◌, ◌++◌, length, Option, Some, None, refl, sym, ap, subst, ◌∙◌, length-append, arith}
 use Rattle.std.specs.Prelude.{if◌then◌else◌, nat_lt, is_none, Ok, Err}
 use Rattle.std.specs.List.{AllByRecursion}
 use Rattle.std.proofs.lemmas.Bool.{le-ltb, ltb-false}
@@ -10,7 +10,7 @@ use Rattle.brisk_derivtext.specs.declared.line.Format.{Format}
 use Rattle.brisk_derivtext.specs.declared.line.Format.TheVariants.{Format1, Format2}
 use Rattle.brisk_derivtext.specs.declared.line.Line.{Line}
 use Rattle.brisk_derivtext.specs.declared.line.Line.TheVariants.{Head, Plain, Fork, Enter, Else, Join, Close, End, Part, EndPart, Use}
-use Rattle.brisk_derivtext.specs.Lines.{line_text, IsLegal}
+use Rattle.brisk_derivtext.specs.Lines.{IsLegal}
 use Rattle.brisk_derivtext.specs.Laws.{WrittenIsRead, ReadIsWritten, TextsDiffer}
 use Rattle.brisk_derivtext.specs.Reading.{◌then◌, Open, Body, empty, put, lines_around, lines_so_far, Ended, Reading, start, with_body, with_steps, is_empty, is_whole, part_ended, part_named, used, at_head, behind_head, in_format, next, TooLong, within_bytes, bounded, and_then, read_line, read_all, ComesTo}
 use Rattle.brisk_derivtext.specs.Texts.{text_of_lines, lines_of, derivation_lines, most_bytes, most_nested, AreFew, HasText}

@@ -1,5 +1,5 @@
 -- Lines of steps read without keeping the steps: of each open rule it is known where in it the lines stand.
-use Rattle.std.specs.Prelude.{ℕ, nat_lt, if◌then◌else◌, List, [], ◌∷◌, length, map, Option, Some, None}
+use Rattle.std.specs.Prelude.{nat_lt, if◌then◌else◌, List, ◌∷◌, length, map, Option, Some, None}
 use Rattle.brisk_derivtext.specs.declared.line.Line.{Line}
 use Rattle.brisk_derivtext.specs.declared.line.Line.TheVariants.{Plain, Fork, Enter, Else, Join, Close}
 use Rattle.brisk_derivtext.specs.declared.side.Side.{Side}

@@ -1,4 +1,4 @@
-use Rattle.std.proofs.Common.{◌≡◌, ◌∷◌, sym, subst, ap, ◌∙◌, arith}
+use Rattle.std.proofs.Common.{◌≡◌, sym, subst, ◌∙◌}
 use Rattle.brisk_lex.specs.Spelled.{IsName}
 use Rattle.brisk_lines.proofs.Cuts.{nothing_read}
 use Rattle.brisk_derivtext.specs.Lines.{fact_text, IsLegalFact}

@@ -1,4 +1,4 @@
-use Rattle.std.proofs.Common.{◌≡◌, ◌==◌, true, false, ap, sym, ◌∙◌, length}
+use Rattle.std.proofs.Common.{sym}
 use Rattle.brisk_derivtext.proofs.Fronts.{only, no_bytes}
 use Rattle.brisk_derivtext.proofs.words.only_name.Goals as goal
 

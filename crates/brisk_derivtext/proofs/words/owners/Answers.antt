@@ -1,4 +1,4 @@
-use Rattle.std.proofs.Common.{◌≡◌, ◌++◌, ◌∷◌, [], List, sym, ◌∙◌, ap, length, arith}
+use Rattle.std.proofs.Common.{◌≡◌, sym, ◌∙◌, length, arith}
 use Rattle.std.specs.Prelude.{codes}
 use Rattle.brisk_derivtext.proofs.Fronts.{no_last, no_owners_named, owners_parts, owners_read, same_word, other_word}
 use Rattle.brisk_derivtext.proofs.words.owners.Goals as goal

@@ -14,6 +14,5 @@ pub mod Queues
 pub mod Ranked
 pub mod Refused
 pub mod Runs
-pub mod Sampled
 pub mod Senders
 pub mod Started

@@ -10,5 +10,4 @@ pub mod Machine
 pub mod PlainRuns
 pub mod Ranks
 pub mod Refusals
-pub mod Sample
 pub mod States

@@ -22,15 +22,15 @@ ghost use Rattle.brisk_syntax.specs.WellTyped.{IsProgramWellTyped};
 
 use crate::changes::make_change;
 use crate::codes::{Codes, Next};
-use crate::copies::{copy_program, copy_sizes};
 use crate::effect::{Act, Change, is_member, partner, plain, replaced};
 use crate::event::Event;
 use crate::fault::StepFault;
 use crate::mail::{Key, Mail};
 use crate::queue::{Queue, told};
+use crate::sizes::copy_sizes;
 use crate::start::start_codes;
 use brisk_instance::{StartFault, judge, start_store};
-use brisk_syntax::{Code, Names, Program, Stmt, Who, copy_names, subst};
+use brisk_syntax::{Code, Names, Program, Stmt, Who, copy_names, copy_program, subst};
 use brisk_values::{Instance, NoMemory, Pid, Sizes, Store, Values};
 use std::alloc::Global;
 use std::marker::Model;

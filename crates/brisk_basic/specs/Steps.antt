@@ -18,6 +18,11 @@ Gives outcome q S = outcome ≡ Ok record { statement = option_map item_of q; ne
 abbrev pub Fails : Result Applied RuleFault → RuleFault → Type 0
 Fails outcome why = (outcome ≡ Err why) ⊎ ((why ≡ NoMemory) × IsOk outcome)
 
+-- the test that fails, if one does
+abbrev pub fault_of : {A : Type 0} → Result A RuleFault → Option RuleFault
+fault_of (Ok a) = None
+fault_of (Err why) = Some why
+
 -- the variable and the expression of an assignment
 abbrev pub assignment_of : Option Statement → Option (Name × Expression)
 assignment_of (Some (Assign x e)) = Some (x, e)

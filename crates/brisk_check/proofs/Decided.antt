@@ -5,7 +5,7 @@ use Rattle.std.specs.List.{AllByRecursion}
 use Rattle.brisk_lines.specs.Lines.{Reads}
 use Rattle.brisk_lines.specs.Pieces.{Lacks}
 use Rattle.brisk_lines.proofs.Cuts.{cut_once}
-use Rattle.brisk_print.specs.Layout.{Text}
+use Rattle.brisk_text.specs.Values.{Text}
 use Rattle.brisk_derivation.specs.Steps.{Steps}
 use Rattle.brisk_derivtext.specs.declared.line.Format.{Format}
 use Rattle.brisk_derivtext.specs.declared.line.Line.{Line}

@@ -6,7 +6,7 @@ use Rattle.std.proofs.lemmas.Bool.{eqb-true}
 use Rattle.brisk_lex.proofs.Ascii.{both}
 use Rattle.brisk_lines.specs.Lines.{Reads}
 use Rattle.brisk_lines.specs.Pieces.{differs, Lacks}
-use Rattle.brisk_print.specs.Layout.{Text}
+use Rattle.brisk_text.specs.Values.{Text}
 use Rattle.brisk_syntax.specs.declared.program.Program.{Program}
 use Rattle.brisk_rules.specs.Derives.{outcome}
 use Rattle.brisk_loops.specs.Walk as walk

@@ -1,6 +1,7 @@
 -- A checker that is fed a derivation's text in pieces, on plain data.
 use Rattle.std.specs.Prelude.{ℕ, ◌+◌, suc, Bool, true, false, ◌==◌, if◌then◌else◌, List, [], ◌∷◌, ◌++◌, Option, Some, None, is_none, option_map, Result, Ok, Err}
-use Rattle.brisk_print.specs.Layout.{Text, sequential}
+use Rattle.brisk_print.specs.Layout.{sequential}
+use Rattle.brisk_text.specs.Values.{Text}
 use Rattle.brisk_syntax.specs.declared.program.Program.{Program}
 use Rattle.brisk_seq.specs.declared.tree.SeqProgram.{SeqProgram}
 use Rattle.brisk_derivation.specs.Steps.{Branch, Steps, no_steps}

@@ -1,7 +1,7 @@
 -- What holds of the checker.
 use Rattle.std.specs.Prelude.{◌≡◌, ◌++◌, Result, Ok, Err}
 use Rattle.brisk_lines.specs.Lines.{Reads}
-use Rattle.brisk_print.specs.Layout.{Text}
+use Rattle.brisk_text.specs.Values.{Text}
 use Rattle.brisk_syntax.specs.declared.program.Program.{Program}
 use Rattle.brisk_derivation.specs.Steps.{Steps}
 use Rattle.brisk_derivtext.specs.declared.line.Format.{Format}

@@ -7,7 +7,7 @@ use Rattle.std.proofs.lemmas.List.Folds.{list_all-append}
 use Rattle.brisk_lex.specs.Spelled.{IsName}
 use Rattle.brisk_lex.proofs.Ascii.{both}
 use Rattle.brisk_lex.proofs.Printed.{is_plain}
-use Rattle.brisk_print.specs.Layout.{Text}
+use Rattle.brisk_text.specs.Values.{Text}
 use Rattle.brisk_values.specs.Names.{Name, same_name}
 use Rattle.brisk_values.proofs.Changes.{name_laws}
 use Rattle.brisk_derivation.specs.declared.steps.BasicStep.{BasicStep}

@@ -3,7 +3,7 @@ use Rattle.std.proofs.Common.{◌≡◌, true, ℕ, List, ◌++◌, Option, Some
 use Rattle.brisk_lines.specs.Lines.{Reads}
 use Rattle.brisk_lines.specs.Pieces.{IsCut}
 use Rattle.brisk_lines.proofs.Cuts.{cut_once}
-use Rattle.brisk_print.specs.Layout.{Text}
+use Rattle.brisk_text.specs.Values.{Text}
 use Rattle.brisk_values.specs.Names.{Name}
 use Rattle.brisk_derivation.specs.declared.steps.BasicStep.TheVariants as basic
 use Rattle.brisk_derivation.specs.declared.steps.Fact.{Fact}

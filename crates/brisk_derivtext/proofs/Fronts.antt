@@ -11,7 +11,7 @@ use Rattle.brisk_lex.specs.Spelled.{IsName}
 use Rattle.brisk_lines.specs.Pieces.{differs, Lacks, Begins, IsCut}
 use Rattle.brisk_lines.proofs.Cuts.{clash, cut_once}
 use Rattle.brisk_lines.proofs.Plain.{decimal_lacks, name_lacks}
-use Rattle.brisk_print.specs.Layout.{Text}
+use Rattle.brisk_text.specs.Values.{Text}
 use Rattle.brisk_values.specs.Names.{Name, same_name}
 use Rattle.brisk_values.proofs.Changes.{name_laws, exact_name}
 use Rattle.brisk_derivation.specs.declared.steps.Fact.{Fact}

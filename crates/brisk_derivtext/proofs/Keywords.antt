@@ -3,7 +3,7 @@ use Rattle.std.proofs.Common.{◌≡◌, Bool, true, false, List, [], ◌∷◌,
 use Rattle.std.specs.Prelude.{if◌then◌else◌}
 use Rattle.std.specs.List.{AllByRecursion}
 use Rattle.brisk_lines.specs.Lines.{Reads}
-use Rattle.brisk_print.specs.Layout.{Text}
+use Rattle.brisk_text.specs.Values.{Text}
 use Rattle.brisk_values.specs.Names.{same_name}
 use Rattle.brisk_values.proofs.Changes.{exact_name}
 use Rattle.brisk_derivation.specs.declared.steps.BasicStep.TheVariants as basic

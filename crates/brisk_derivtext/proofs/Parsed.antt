@@ -12,7 +12,7 @@ use Rattle.brisk_lex.proofs.Ascii.{both}
 use Rattle.brisk_lines.specs.Lines.{Reads}
 use Rattle.brisk_lines.specs.Pieces.{differs, Lacks}
 use Rattle.brisk_lines.proofs.Plain.{name_lacks}
-use Rattle.brisk_print.specs.Layout.{Text}
+use Rattle.brisk_text.specs.Values.{Text}
 use Rattle.brisk_values.specs.Names.{Name, same_name}
 use Rattle.brisk_values.proofs.Changes.{name_laws, exact_name}
 use Rattle.brisk_derivation.specs.declared.steps.BasicStep.TheVariants as basic

@@ -1,6 +1,6 @@
 -- The first words of lines.
 use Rattle.std.specs.Prelude.{if◌then◌else◌, Bool, true, false, List, [], ◌∷◌, Option, Some, None, codes}
-use Rattle.brisk_print.specs.Layout.{Text}
+use Rattle.brisk_text.specs.Values.{Text}
 use Rattle.brisk_values.specs.Names.{same_name}
 use Rattle.brisk_derivation.specs.declared.steps.BasicStep.TheVariants as basic
 use Rattle.brisk_derivtext.specs.declared.keyword.Keyword.{Keyword}

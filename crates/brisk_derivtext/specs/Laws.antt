@@ -1,7 +1,7 @@
 -- What holds of derivation texts.
 use Rattle.std.specs.Prelude.{◌≡◌, ◌≤◌, ◌++◌, ◌∷◌, List, Some}
 use Rattle.std.specs.List.{AllByRecursion}
-use Rattle.brisk_print.specs.Layout.{Text}
+use Rattle.brisk_text.specs.Values.{Text}
 use Rattle.brisk_derivation.specs.Depths.{steps_depth}
 use Rattle.brisk_derivation.specs.Steps.{Steps}
 use Rattle.brisk_derivtext.specs.declared.line.Format.{Format}

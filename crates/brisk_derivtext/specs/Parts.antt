@@ -1,7 +1,7 @@
 -- Texts of format 2 by their grammar: parts and steps, in which parts are used.
 use Rattle.std.specs.Prelude.{◌≡◌, ◌≤◌, List, [], ◌∷◌, ◌++◌, Option, Some, None, option_map}
 use Rattle.std.specs.List.{AllByRecursion}
-use Rattle.brisk_print.specs.Layout.{Text}
+use Rattle.brisk_text.specs.Values.{Text}
 use Rattle.brisk_values.specs.Names.{Name}
 use Rattle.brisk_derivation.specs.declared.steps.BasicStep.{BasicStep}
 use Rattle.brisk_derivation.specs.Depths.{steps_depth}

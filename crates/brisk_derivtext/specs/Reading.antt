@@ -1,7 +1,7 @@
 -- Texts of both formats read line by line, and at which line a text first fails.
 use Rattle.std.specs.Prelude.{◌≡◌, ℕ, ◌+◌, Bool, true, false, ◌&&◌, ◌||◌, not, nat_lt, if◌then◌else◌, List, [], ◌∷◌, ◌++◌, length, Option, Some, None, is_none, Result, Ok, Err}
 use Rattle.std.specs.List.{AllByRecursion}
-use Rattle.brisk_print.specs.Layout.{Text}
+use Rattle.brisk_text.specs.Values.{Text}
 use Rattle.brisk_values.specs.Names.{Name, same_name}
 use Rattle.brisk_derivation.specs.Depths.{steps_depth}
 use Rattle.brisk_derivation.specs.Steps.{Step, Basic, Branch, Steps, no_steps, ◌▷◌}

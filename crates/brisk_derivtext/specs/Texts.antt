@@ -1,7 +1,7 @@
 -- The text of steps in format 1.
 use Rattle.std.specs.Prelude.{◌≡◌, ℕ, ◌≤◌, List, [], ◌∷◌, ◌++◌, length}
 use Rattle.std.specs.List.{AllByRecursion}
-use Rattle.brisk_print.specs.Layout.{Text}
+use Rattle.brisk_text.specs.Values.{Text}
 use Rattle.brisk_derivation.specs.Depths.{steps_depth}
 use Rattle.brisk_derivation.specs.Steps.{Step, Basic, Branch, Steps, no_steps, ◌▷◌}
 use Rattle.brisk_derivation.specs.Steps as tree

@@ -5,8 +5,6 @@ mod fault;
 mod fit;
 mod laws;
 mod start;
-#[cfg(test)]
-mod tests;
 mod tokens;
 
 pub use fault::StartFault;

@@ -7,8 +7,6 @@ mod laws;
 mod marks;
 mod name;
 mod scan;
-#[cfg(test)]
-mod tests;
 mod text;
 mod token;
 mod words;

@@ -9,7 +9,7 @@ use Rattle.std.proofs.lemmas.List.Folds.{list_all-append}
 use Rattle.brisk_lex.specs.Spelled.{IsName, is_numeral}
 use Rattle.brisk_lex.proofs.Ascii.{both}
 use Rattle.brisk_lex.proofs.Printed.{decimal_is}
-use Rattle.brisk_print.specs.Layout.{Text, value_text}
+use Rattle.brisk_text.specs.Values.{Text, value_text}
 use Rattle.brisk_values.specs.Names.{Name}
 use Rattle.brisk_values.specs.declared.value.Value.{Value}
 use Rattle.brisk_values.specs.declared.value.Value.TheVariants as value

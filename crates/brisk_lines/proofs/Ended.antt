@@ -4,7 +4,7 @@ use Rattle.std.specs.Prelude.{codes}
 use Rattle.std.specs.Int.{w64}
 use Rattle.std.specs.Fmt.{decimal, signed_decimal}
 use Rattle.brisk_lex.specs.Spelled.{IsName}
-use Rattle.brisk_print.specs.Layout.{Text, value_text}
+use Rattle.brisk_text.specs.Values.{Text, value_text}
 use Rattle.brisk_values.specs.declared.value.Value.{Value}
 use Rattle.brisk_values.specs.declared.value.Value.TheVariants as value
 use Rattle.brisk_lines.specs.declared.line.Line.{Line}

@@ -15,7 +15,7 @@ use Rattle.brisk_lex.specs.Tokens.{starts_name}
 use Rattle.brisk_lex.specs.Spelled.{is_identifier, IsName}
 use Rattle.brisk_lex.proofs.Ascii.{both, starts_ascii}
 use Rattle.brisk_lex.proofs.Printed.{is_plain, plain_ends}
-use Rattle.brisk_print.specs.Layout.{Text}
+use Rattle.brisk_text.specs.Values.{Text}
 use Rattle.brisk_lines.specs.declared.line.Process.{Process}
 use Rattle.brisk_lines.specs.Lines.{member_text, process_text, IsShort, IsLegalProcess}
 use Rattle.brisk_lines.specs.Pieces.{differs, Lacks}

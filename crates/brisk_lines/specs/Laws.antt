@@ -1,6 +1,6 @@
 -- What holds of lines.
 use Rattle.std.specs.Prelude.{◌≡◌, ◌++◌, codes}
-use Rattle.brisk_print.specs.Layout.{Text}
+use Rattle.brisk_text.specs.Values.{Text}
 use Rattle.brisk_lines.specs.declared.line.Line.{Line}
 use Rattle.brisk_lines.specs.Lines.{line_text, IsLegal}
 

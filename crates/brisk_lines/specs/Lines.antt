@@ -3,7 +3,7 @@ use Rattle.std.specs.Prelude.{◌≡◌, ℕ, ◌^◌, ◌<◌, ◌≤◌, ◌++
 use Rattle.std.specs.Fmt.{decimal}
 use Rattle.std.specs.Int.{w64}
 use Rattle.brisk_lex.specs.Spelled.{IsName}
-use Rattle.brisk_print.specs.Layout.{Text, value_text}
+use Rattle.brisk_text.specs.Values.{Text, value_text}
 use Rattle.brisk_values.specs.declared.value.Value.{Value}
 use Rattle.brisk_values.specs.declared.value.Value.TheVariants as value
 use Rattle.brisk_lines.specs.declared.line.Line.{Line}

@@ -3,7 +3,7 @@ use Rattle.std.specs.Prelude.{◌≡◌, ◌≢◌, ℕ, ◌≤◌, [], ◌∷�
 use Rattle.std.specs.List.{list_all}
 use Rattle.std.specs.Fmt.{decimal}
 use Rattle.brisk_lex.specs.Spelled.{IsName}
-use Rattle.brisk_print.specs.Layout.{Text, tag, value_text}
+use Rattle.brisk_text.specs.Values.{Text, tag, value_text}
 use Rattle.brisk_values.specs.Names.{Name}
 use Rattle.brisk_values.specs.declared.value.Value.{Value}
 use Rattle.brisk_lines.specs.declared.line.Process.{Process}

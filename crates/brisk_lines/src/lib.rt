@@ -6,8 +6,6 @@ mod line;
 mod numbers;
 mod parts;
 mod read;
-#[cfg(test)]
-mod tests;
 mod write;
 
 pub use laws::{lines, lines_are_cut};

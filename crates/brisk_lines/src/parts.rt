@@ -1,7 +1,7 @@
 //! The parts of a line: processes and values, each read where its whole text stands.
 ghost use Rattle.std.specs.Prelude.{◌≡◌, ◌++◌, List, ℕ, MatchOption, IfSome};
 ghost use Rattle.brisk_lex.specs.Spelled.{IsName};
-ghost use Rattle.brisk_print.specs.Layout.{value_text};
+ghost use Rattle.brisk_text.specs.Values.{value_text};
 ghost use Rattle.brisk_lines.specs.Lines.{Reads, member_text, process_text, IsShort, IsLegalProcess, IsLegalValue};
 ghost use Rattle.brisk_lines.specs.Pieces.{IsCut, tag_text, IsLegalTag};
 

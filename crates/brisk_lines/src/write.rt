@@ -3,7 +3,7 @@ ghost use Rattle.std.specs.Prelude.{◌≡◌, ◌++◌, OnOk, codes};
 ghost use Rattle.brisk_lines.specs.Lines.{line_text, process_text, sender_text, place_text};
 
 use crate::line::{Line, Process};
-use brisk_print::{put, put_number, put_value};
+use brisk_text::{put, put_number, put_value};
 use brisk_values::NoMemory;
 
 /// Writes a process as its role, or as its set and its number there in brackets.

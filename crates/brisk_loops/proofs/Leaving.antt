@@ -32,7 +32,7 @@ use Rattle.brisk_rules.proofs.Fulfilled.{same_ok, when_ok, at_head_ok}
 use Rattle.brisk_loops.proofs.Entering.{at_code, gather_heard, any_heard}
 
 -- a thread that the close doesn't look at, or that has another mode, changes no test
-code_moved : (look : Name → Bool) (t : Name) (c : Code) → ((u : Name) → same_name t u ≡ true → look u ≡ false) → (ts us : List Thread) → not_restored look (with_code t c ts) us ≡ not_restored look ts us
+pub code_moved : (look : Name → Bool) (t : Name) (c : Code) → ((u : Name) → same_name t u ≡ true → look u ≡ false) → (ts us : List Thread) → not_restored look (with_code t c ts) us ≡ not_restored look ts us
 code_moved look t c free [] us = refl
 code_moved look t c free (x ∷ ts) [] = elim (same_name t x.name) as (λ b. not_restored look (cond b (record x { code = c }) x ∷ with_code t c ts) [] ≡ None) [ | true ↦ refl | false ↦ refl ]
 code_moved look t c free (x ∷ ts) (y ∷ us) =
@@ -42,7 +42,7 @@ code_moved look t c free (x ∷ ts) (y ∷ us) =
       | false ↦ λ s. (λ i. first_fault (cond (look x.name) (unless (same_code x.code y.code) (NotRestored x.name)) None ∷ code_moved look t c free ts us i ∷ []))
     ] refl
 
-mode_moved : (look : Name → Bool) (s : Name) (m : Mode) (ts us : List Thread) → not_restored look (with_mode s m ts) us ≡ not_restored look ts us
+pub mode_moved : (look : Name → Bool) (s : Name) (m : Mode) (ts us : List Thread) → not_restored look (with_mode s m ts) us ≡ not_restored look ts us
 mode_moved look s m [] us = refl
 mode_moved look s m (x ∷ ts) [] = elim (same_name s x.name) as (λ b. not_restored look (cond b (record x { mode = m }) x ∷ with_mode s m ts) [] ≡ None) [ | true ↦ refl | false ↦ refl ]
 mode_moved look s m (x ∷ ts) (y ∷ us) =

@@ -1,5 +1,5 @@
 -- What contracts see of a rule that is closed.
-use Rattle.std.specs.Prelude.{Bool, ◌&&◌, not, List, Option, Some, None}
+use Rattle.std.specs.Prelude.{Bool, ◌&&◌, not, List, [], Option, Some, None}
 use Rattle.std.specs.List.{list_any}
 use Rattle.brisk_values.specs.Names.{Name, same_name}
 use Rattle.brisk_syntax.specs.Expressions.{expression_of}
@@ -8,9 +8,21 @@ use Rattle.brisk_state.specs.Same.{same_code}
 use Rattle.brisk_state.specs.Symbolic.{Symbolic, thread_named}
 use Rattle.brisk_derivation.specs.declared.fault.SideFault.{SideFault}
 use Rattle.brisk_derivation.specs.declared.steps.Fact.{Fact}
+use Rattle.brisk_derivation.specs.declared.steps.Step.{Step}
+use Rattle.brisk_derivation.specs.declared.steps.Step.TheVariants as step
 use Rattle.brisk_loops.specs.declared.close.Loop.{Loop}
 use Rattle.brisk_loops.specs.declared.close.Loop.TheVariants as loop
 use Rattle.brisk_rules.specs.Rules.{Kind, While, Repeat, For, Gather, Pick, Owner, Entered, looks, looks_at, without_drops, code_in}
+
+-- the facts that a step drops
+abbrev pub drops_in : Step → List Fact
+drops_in (step.Basic b) = []
+drops_in (step.Branch t a b) = []
+drops_in (step.While t drops a) = drops
+drops_in (step.For s ts drops a) = drops
+drops_in (step.Repeat t drops a) = drops
+drops_in (step.Gather t drops a) = drops
+drops_in (step.Pick t drops a) = drops
 
 -- the kind of a loop
 abbrev pub kind_of : Loop → Kind

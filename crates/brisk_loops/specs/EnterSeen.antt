@@ -1,13 +1,21 @@
 -- What contracts see of a rule that is entered.
-use Rattle.std.specs.Prelude.{◌≡◌, ℕ, ◌+◌, Bool, true, false, Option, Some, Ok, Err}
+use Rattle.std.specs.Prelude.{◌≡◌, ℕ, ◌+◌, Bool, true, false, List, ◌∷◌, map, Option, Some, None, Ok, Err}
+use Rattle.brisk_values.specs.Names.{Name}
+use Rattle.brisk_syntax.specs.Syntax.{Code}
+use Rattle.brisk_basic.specs.declared.rule.RuleFault.TheVariants.{NoThread}
+use Rattle.brisk_derivation.specs.declared.fault.SideFault.TheVariants.{SetIsFocused}
 use Rattle.brisk_state.specs.declared.thread.Mode.{Mode}
-use Rattle.brisk_state.specs.declared.thread.Mode.TheVariants.{At}
-use Rattle.brisk_state.specs.Symbolic.{Symbolic}
+use Rattle.brisk_state.specs.declared.thread.Mode.TheVariants.{At, Each}
+use Rattle.brisk_state.specs.declared.thread.Thread.{Thread}
+use Rattle.brisk_state.specs.Symbolic.{Symbolic, with_code}
 use Rattle.brisk_loops.specs.declared.fault.AcceptFault.{AcceptFault}
 use Rattle.brisk_loops.specs.declared.fault.AcceptFault.TheVariants as fault
 use Rattle.brisk_loops.specs.declared.fault.Refusal.{Refusal}
 use Rattle.brisk_loops.specs.declared.fault.Refusal.TheVariants.{Because, NoMemory}
-use Rattle.brisk_rules.specs.Rules.{Outcome, Entered, Parted}
+use Rattle.brisk_rules.specs.declared.why.Why.{Why}
+use Rattle.brisk_rules.specs.declared.why.Why.TheVariants.{Rule, Side}
+use Rattle.brisk_rules.specs.Heads.{Loop, for_of}
+use Rattle.brisk_rules.specs.Rules.{Outcome, Entered, Parted, at_head}
 use Rattle.brisk_loops.specs.Walk.{Inside, starts}
 use Rattle.brisk_loops.specs.WalkKept.{kept}
 
@@ -37,6 +45,29 @@ Refuses outcome NoMemory = Unit {0}
 abbrev pub refused_at : ℕ → Refusal → AcceptFault
 refused_at counted (Because why) = fault.Bad (kept (counted + 2)) why
 refused_at counted NoMemory = fault.NoMemory
+
+-- the loop over a set at which a thread stands
+abbrev pub loop_at : Symbolic → Name → Name → Outcome Loop
+loop_at S s t = at_head S t (for_of s) (λ l. Ok l)
+
+-- the code is the loop's body
+abbrev pub IsBody : Outcome Loop → Code → Type 0
+IsBody outcome body = (l : Loop) × (outcome ≡ Ok l) × (body ≡ l.body)
+
+-- these are the loops' bodies
+abbrev pub AreBodies : Outcome (List Loop) → List Code → Type 0
+AreBodies outcome bodies = (ls : List Loop) × (outcome ≡ Ok ls) × (bodies ≡ map (λ l. l.body) ls)
+
+-- each thread stands at its code
+abbrev pub at_codes : List Name → List Code → List Thread → List Thread
+at_codes (t ∷ ts) (c ∷ cs) threads = at_codes ts cs (with_code t c threads)
+at_codes ts cs threads = threads
+
+-- why a thread of this mode isn't a set that can be brought into focus
+abbrev pub focus_fault : Option Mode → Option Why
+focus_fault (Some Each) = None
+focus_fault (Some At) = Some (Side SetIsFocused)
+focus_fault mode = Some (Rule NoThread)
 
 -- the mode is that of a set in focus
 abbrev pub is_at : Option Mode → Bool

@@ -2,6 +2,7 @@ pub mod CloseSeen
 pub mod EnterSeen
 pub mod HeadsSeen
 pub mod LeaveSeen
+pub mod PiecesSeen
 pub mod Walk
 pub mod WalkKept
 pub mod WalkLaws

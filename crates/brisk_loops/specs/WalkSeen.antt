@@ -5,7 +5,8 @@ use Rattle.brisk_state.specs.Symbolic.{Symbolic}
 use Rattle.brisk_basic.specs.declared.rule.RuleFault.{RuleFault}
 use Rattle.brisk_basic.specs.declared.rule.RuleFault.TheVariants as basic_fault
 use Rattle.brisk_derivation.specs.Seen.{step_of}
-use Rattle.brisk_rules.specs.declared.why.Why.TheVariants.{Rule as of_rule}
+use Rattle.brisk_rules.specs.declared.why.Why.TheVariants.{Rule as of_rule, Side as of_side}
+use Rattle.brisk_derivation.specs.declared.fault.SideFault.{SideFault}
 use Rattle.brisk_loops.specs.declared.fault.AcceptFault.{AcceptFault}
 use Rattle.brisk_loops.specs.declared.fault.AcceptFault.TheVariants.{Bad, NoMemory}
 use Rattle.brisk_loops.specs.declared.rule.Rule.{Rule}
@@ -64,6 +65,11 @@ Fails call NoMemory = Unit {0}
 abbrev pub told_by : ℕ → RuleFault → AcceptFault
 told_by counted basic_fault.NoMemory = NoMemory
 told_by counted why = Bad (kept (counted + 2)) (of_rule why)
+
+-- why a basic rule isn't applied where a test for loose channels fails: its own test is told first
+abbrev pub told_first_by : ℕ → Option RuleFault → SideFault → AcceptFault
+told_first_by counted (Some why) fault = told_by counted why
+told_first_by counted None fault = Bad (kept (counted + 2)) (of_side fault)
 
 -- a call that tells of this failure, at the line that is told; or there is no memory
 abbrev pub Tells : {A : Type 0} → Result A Failure → AcceptFault → Type 0

@@ -1,6 +1,5 @@
 //! Whether a derivation is valid: its calls, made on a walk.
-ghost use Rattle.std.specs.Prelude.{◌≡◌, true, IfOk, IfErr, Ok as okay};
-ghost use Rattle.brisk_syntax.specs.Classes.{has_no_loose};
+ghost use Rattle.std.specs.Prelude.{◌≡◌, IfOk, IfErr, Ok as okay};
 ghost use Rattle.brisk_syntax.specs.WellTyped.{IsProgramWellTyped};
 ghost use Rattle.brisk_derivation.specs.Seen.{step_of};
 ghost use Rattle.brisk_rules.specs.Derives.{outcome};
@@ -19,13 +18,12 @@ use std::alloc::Global;
 /// The sequential program of a valid derivation, or the line at which the first failure is told.
 pub fn accept(
     alloc: Global,
-    program: Program,
+    program: &Program,
     derivation: &Steps,
 ) -> Result<SeqProgram, AcceptFault>
-    requires typed { IsProgramWellTyped program }
-    requires strict { has_no_loose program ≡ true }
-    ensures ok { IfOk result (λ q. outcome program derivation.now ≡ okay q) }
-    ensures cause { IfErr result (λ f. Fails (outcome program derivation.now) f) }
+    requires { IsProgramWellTyped program.now }
+    ensures ok { IfOk result (λ q. outcome program.now derivation.now ≡ okay q) }
+    ensures cause { IfErr result (λ f. Fails (outcome program.now derivation.now) f) }
 {
     let mut walk = Walk::start(alloc, program)?;
     take_all(&mut walk, derivation)?;

@@ -7,14 +7,14 @@ ghost use Rattle.std.specs.List.{list_any};
 ghost use Rattle.brisk_values.specs.Names.{same_name};
 ghost use Rattle.brisk_facts.specs.Facts.{facts_where};
 ghost use Rattle.brisk_state.specs.Symbolic.{pending_where, same_pending};
-ghost use Rattle.brisk_loops.specs.CloseSeen.{closing, either_fault, has_left, is_looked_at, kind_of};
+ghost use Rattle.brisk_loops.specs.CloseSeen.{closing, either_fault, drops_in, has_left, is_looked_at, kind_of};
 ghost use Rattle.brisk_rules.specs.Rules.{after_close, close as close_of, first_fault, learnt, unless, gather_tests, last_tests, looks, close_tests, looks_at as looks_at_role, looks_at_key, not_restored as not_restored_in, unfinished as unfinished_in, without_drops};
 
 use crate::enter::drop_facts;
 use crate::fault::Refusal;
 use crate::rest::{has_code, same_codes};
 use brisk_rules::Why;
-use brisk_derivation::{Drops, SideFault};
+use brisk_derivation::{SideFault, Step};
 use brisk_facts::Facts;
 use brisk_quiet::{Stillness, quiet};
 use brisk_state::{State, Thread};
@@ -86,8 +86,8 @@ fn is_unfinished(end: &State, name: Name) -> bool
     }
 }
 
-// Whether one of the owners has the name.
-fn is_owner(owners: &[Owner], name: Name) -> bool
+/// Whether one of the owners has the name.
+pub(crate) fn is_owner(owners: &[Owner], name: Name) -> bool
     ensures { result ≡ list_any (λ o. same_name name o.name) owners.now }
 {
     for owner in owners {
@@ -147,13 +147,28 @@ fn same_mail(kind: &Loop, before: &State, end: &State) -> Result<bool, NoMemory>
 }
 
 // The facts from before at which the close looks.
-fn kept(kind: &Loop, before: &State, drops: &Drops) -> Result<Facts, NoMemory>
-    ensures { IfOk result (λ f. f ≡ facts_where (λ q. looks_at_role (looks (kind_of kind.now)) q.0) (without_drops drops.now before.now.facts)) }
+fn kept(kind: &Loop, before: &State, step: &Step) -> Result<Facts, NoMemory>
+    ensures { IfOk result (λ f. f ≡ facts_where (λ q. looks_at_role (looks (kind_of kind.now)) q.0) (without_drops (drops_in step.now) before.now.facts)) }
 {
     let mut facts = before.facts().copy()?;
-    drop_facts(&mut facts, drops);
+    drop_facts_of(&mut facts, step);
     keep_looked_at(kind, &mut facts);
     Ok(facts)
+}
+
+// Nothing is known of what the step drops.
+fn drop_facts_of(facts: &mut Facts, step: &Step)
+    ensures { facts.new ≡ without_drops (drops_in step.now) facts.old }
+{
+    match step {
+        Step::Basic(_) => {}
+        Step::Branch(_, _, _) => {}
+        Step::While(_, drops, _) => drop_facts(facts, drops),
+        Step::For(_, _, drops, _) => drop_facts(facts, drops),
+        Step::Repeat(_, drops, _) => drop_facts(facts, drops),
+        Step::Gather(_, drops, _) => drop_facts(facts, drops),
+        Step::Pick(_, drops, _) => drop_facts(facts, drops),
+    }
 }
 
 // Keeps the facts at which the close looks.
@@ -236,12 +251,12 @@ pub(crate) fn facts_after(
     alloc: Global,
     kind: &Loop,
     owners: &[Owner],
-    drops: &Drops,
+    step: &Step,
     before: &State,
     end: &State,
 ) -> Result<Facts, Refusal>
-    ensures ok { IfOk result (λ f. (first_fault (close_tests (closing (kind_of kind.now) owners.now drops.now before.now) end.now) ≡ None) × (f ≡ (after_close (closing (kind_of kind.now) owners.now drops.now before.now) end.now).facts)) }
-    ensures cause { IfErr result (λ f. Refuses (close_of (closing (kind_of kind.now) owners.now drops.now before.now) end.now) f) }
+    ensures ok { IfOk result (λ f. (first_fault (close_tests (closing (kind_of kind.now) owners.now (drops_in step.now) before.now) end.now) ≡ None) × (f ≡ (after_close (closing (kind_of kind.now) owners.now (drops_in step.now) before.now) end.now).facts)) }
+    ensures cause { IfErr result (λ f. Refuses (close_of (closing (kind_of kind.now) owners.now (drops_in step.now) before.now) end.now) f) }
 {
     if let Some(fault) = first_open(kind, owners, before, end) {
         return Err(Refusal::Because(Why::Side(fault)));
@@ -249,7 +264,7 @@ pub(crate) fn facts_after(
     if !same_mail(kind, before, end)? {
         return Err(Refusal::Because(Why::Side(SideFault::MailChanged)));
     }
-    let kept = kept(kind, before, drops)?;
+    let kept = kept(kind, before, step)?;
     if !kept.all_in(end.facts()) {
         return Err(Refusal::Because(Why::Side(SideFault::FactLost)));
     }

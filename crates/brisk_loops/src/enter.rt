@@ -1,28 +1,31 @@
 //! How a rule is entered: the start of its premise.
-ghost use Rattle.std.specs.Prelude.{◌≡◌, ◌+◌, IfOk, IfErr, OnOk};
+ghost use Rattle.std.specs.Prelude.{◌≡◌, ◌+◌, [], IfOk, IfErr, OnOk};
+ghost use Rattle.brisk_syntax.specs.Substitution.{code_with};
+ghost use Rattle.brisk_syntax.specs.Typing.{is_among as is_among_names};
+ghost use Rattle.brisk_syntax.specs.declared.tree.Who.TheVariants.{At as focus_of};
 ghost use Rattle.brisk_syntax.specs.Texts.{text_of};
 ghost use Rattle.brisk_derivation.specs.Seen.{step_of};
 ghost use Rattle.brisk_derivation.specs.Steps.{no_steps as none};
 ghost use Rattle.brisk_state.specs.declared.thread.Mode.TheVariants.{At};
 ghost use Rattle.brisk_state.specs.Symbolic.{thread_named, with_code, with_mode};
 ghost use Rattle.brisk_rules.specs.Derives.{nested, told_at};
-ghost use Rattle.brisk_loops.specs.EnterSeen.{Refuses, SideAt, StartsAt, StartsIn, is_at, refused_at};
+ghost use Rattle.brisk_loops.specs.EnterSeen.{AreBodies, IsBody, Refuses, SideAt, StartsAt, StartsIn, at_codes, focus_fault, is_at, loop_at, refused_at};
 ghost use Rattle.brisk_rules.specs.Heads.{from_focus};
 ghost use Rattle.brisk_loops.specs.HeadsSeen.{any_seen};
-ghost use Rattle.brisk_rules.specs.Rules.{enter_branch, enter_gather, enter_pick, enter_repeat, enter_while, is_nonempty, mode_of, without_drops};
+ghost use Rattle.brisk_rules.specs.Rules.{enter_branch, enter_for, enter_gather, enter_pick, enter_repeat, enter_while, is_nonempty, loops_of, mode_of, without_drops};
 ghost use Rattle.brisk_loops.specs.Walk.{alone as alone_of, entry};
-ghost use Rattle.brisk_loops.specs.WalkSeen.{Fails, inside_of, second_of, told_by};
+ghost use Rattle.brisk_loops.specs.WalkSeen.{Fails, inside_of, second_of, told_by, told_first_by};
 ghost use Rattle.brisk_syntax.specs.declared.program.Program.{Program};
 
 use crate::fault::{AcceptFault, Refusal};
-use crate::heads::{any_at, fork_at, gather_at, repeat_at, while_at};
+use crate::heads::{any_at, for_at, fork_at, gather_at, repeat_at, while_at};
 use crate::rule::{Rule, Side};
 use brisk_rules::Why;
 use brisk_basic::{RuleFault, active, decided, put_code};
 use brisk_derivation::{Drops, SideFault, Step, Steps};
 use brisk_facts::Facts;
 use brisk_state::{Mode, State};
-use brisk_syntax::{AnyRecv, Block, Code, Program, Stmt, Who, copy_names, subst};
+use brisk_syntax::{AnyRecv, Block, Code, Names, Program, Stmt, Who, copy_names, subst};
 use brisk_values::{Name, NoMemory};
 use std::alloc::Global;
 use std::rc::Rc;
@@ -71,6 +74,16 @@ pub(crate) fn told(counted: u64, why: RuleFault) -> AcceptFault
     }
 }
 
+/// Why a basic rule isn't applied, after so many counted calls: its own test that fails, or else the one for loose channels.
+pub(crate) fn told_first(counted: u64, own: Option<RuleFault>, fault: SideFault) -> AcceptFault
+    ensures { result ≡ told_first_by counted own fault }
+{
+    match own {
+        Some(why) => told(counted, why),
+        None => AcceptFault::Bad(counted.saturating_add(2), Why::Side(fault)),
+    }
+}
+
 // The start of what the step enters.
 fn entered(
     alloc: Global,
@@ -85,7 +98,7 @@ fn entered(
         Step::Basic(_) => Err(Refusal::Because(Why::Rule(RuleFault::WrongHead))),
         Step::Branch(owner, _, _) => in_side(alloc, state, *owner, true),
         Step::While(owner, drops, _) => in_while(alloc, state, *owner, drops),
-        Step::For(_, _, _, _) => Err(Refusal::NoMemory),
+        Step::For(set, owners, drops, _) => in_for(alloc, state, *set, owners, drops),
         Step::Repeat(owner, drops, _) => in_repeat(alloc, state, *owner, drops),
         Step::Gather(owner, drops, _) => in_gather(alloc, state, *owner, drops),
         Step::Pick(owner, drops, _) => in_pick(alloc, program, state, *owner, drops),
@@ -233,6 +246,119 @@ fn in_repeat(alloc: Global, state: &State, owner: Name, drops: &Drops) -> Result
     let mut next = dropped(state, drops)?;
     put_code(&mut next, owner, code);
     Ok(next)
+}
+
+// The start of the premise of a `for`.
+fn in_for(
+    alloc: Global,
+    state: &State,
+    set: Name,
+    owners: &Names,
+    drops: &Drops,
+) -> Result<State, Refusal>
+    ensures ok { IfOk result (λ s. StartsAt (enter_for state.now set owners.now drops.now) s) }
+    ensures cause { IfErr result (λ f. Refuses (enter_for state.now set owners.now drops.now) f) }
+{
+    if let Some(why) = no_focus(state, set) {
+        return Err(Refusal::Because(why));
+    }
+    let bodies = match bodies(alloc, state, set, &owners.items) {
+        Ok(bodies) => bodies,
+        Err(why) => return Err(why),
+    };
+    let mut next = dropped(state, drops)?;
+    next.set_mode(set, Mode::At);
+    put_bodies(&owners.items, bodies, &mut next);
+    Ok(next)
+}
+
+// Why no member of the set can be brought into focus.
+fn no_focus(state: &State, set: Name) -> Option<Why>
+    ensures { result ≡ focus_fault (mode_of (thread_named state.now.threads set)) }
+{
+    let Some(thread) = state.thread(set) else {
+        return Some(Why::Rule(RuleFault::NoThread));
+    };
+    match thread.mode {
+        Mode::One => Some(Why::Rule(RuleFault::NoThread)),
+        Mode::At => Some(Why::Side(SideFault::SetIsFocused)),
+        Mode::Each => None,
+    }
+}
+
+// The bodies of the loops over the set at which the owners stand, with the member in focus for the binder.
+fn bodies(
+    alloc: Global,
+    state: &State,
+    set: Name,
+    owners: &[Name],
+) -> Result<Vec<Code>, Refusal>
+    ensures ok { IfOk result (λ b. AreBodies (loops_of state.now set [] owners.now) b.items) }
+    ensures cause { IfErr result (λ f. Refuses (loops_of state.now set [] owners.now) f) }
+{
+    let mut bodies = Vec::new(alloc);
+    for (place, owner) in owners.iter().enumerate() {
+        let body = match body_at(alloc, state, set, *owner) {
+            Ok(body) => body,
+            Err(why) => return Err(why),
+        };
+        if is_among(&owners[..place], *owner) {
+            return Err(Refusal::Because(Why::Rule(RuleFault::WrongHead)));
+        }
+        if bodies.push(body).is_err() {
+            return Err(Refusal::NoMemory);
+        }
+    }
+    Ok(bodies)
+}
+
+// Whether the name is one of these.
+fn is_among(names: &[Name], name: Name) -> bool
+    ensures { result ≡ is_among_names names.now name }
+{
+    for other in names {
+        if name == *other {
+            return true;
+        }
+    }
+    false
+}
+
+// The body of the loop over the set at which the owner stands, with the member in focus for the binder.
+fn body_at(alloc: Global, state: &State, set: Name, owner: Name) -> Result<Code, Refusal>
+    ensures ok { IfOk result (λ b. IsBody (loop_at state.now set owner) b) }
+    ensures cause { IfErr result (λ f. Refuses (loop_at state.now set owner) f) }
+{
+    let Some(code) = active(state, owner) else {
+        return Err(Refusal::Because(Why::Rule(RuleFault::NoThread)));
+    };
+    let Some(each) = for_at(code, set) else {
+        return Err(Refusal::Because(Why::Rule(RuleFault::WrongHead)));
+    };
+    let code = with_focus(alloc, &each.body, each.binder, set)?;
+    Ok(code)
+}
+
+// The code of a body, in which the binder is the member in focus.
+fn with_focus(alloc: Global, body: &Block, binder: Name, set: Name) -> Result<Code, NoMemory>
+    ensures { IfOk result (λ c. c ≡ code_with binder (focus_of set) body.now) }
+{
+    let body = subst(alloc, body, binder, Who::At(set))?;
+    Ok(Code::of(alloc, body.items)?)
+}
+
+// Each owner stands at its body.
+fn put_bodies(owners: &[Name], bodies: Vec<Code>, state: &mut State)
+    ensures { state.new ≡ record state.old { threads = at_codes owners.now bodies.items state.old.threads } }
+{
+    let mut left = owners;
+    for body in bodies {
+        let Some((owner, more)) = left.split_first() else {
+            return;
+        };
+        put_code(state, *owner, body);
+        left = more;
+    }
 }
 
 // The start of the premise of a gather.

@@ -9,6 +9,7 @@ mod fault;
 mod heads;
 mod laws;
 mod leave;
+mod pieces;
 mod rest;
 mod rule;
 mod walk;

@@ -1,8 +1,7 @@
 //! A walk: the rules of a derivation, applied one by one.
-ghost use Rattle.std.specs.Prelude.{◌≡◌, ◌≢◌, ◌<◌, true, [], IfOk, IfErr, Ok as okay, OnErr, option_map, vec_capacity, vec_len};
+ghost use Rattle.std.specs.Prelude.{◌≡◌, ◌≢◌, ◌<◌, [], IfOk, IfErr, Ok as okay, OnErr, option_map, vec_capacity, vec_len};
 ghost use Rattle.brisk_seq.specs.Items.{◌followed_by◌};
 ghost use Rattle.brisk_seq.specs.Seen.{item_of, items_of};
-ghost use Rattle.brisk_syntax.specs.Classes.{has_no_loose};
 ghost use Rattle.brisk_syntax.specs.WellTyped.{IsProgramWellTyped};
 ghost use Rattle.brisk_derivation.specs.Seen.{step_of};
 ghost use Rattle.brisk_loops.specs.Walk.{back as given_up, basic as applied_by, enter as entered_by, finish as finished_by, leave as left_by, other as other_of, rewind as rewound, start};
@@ -11,17 +10,18 @@ ghost use Rattle.brisk_loops.specs.WalkSeen.{Fails, Gives};
 ghost use Rattle.brisk_loops.specs.declared.rule.Side.TheVariants.{Second as second};
 
 use crate::copies::{copy_body, declared};
-use crate::enter::{alone, second_start, start_of, told};
+use crate::enter::{alone, refused, second_start, start_of, told, told_first};
 use crate::fault::AcceptFault;
+use crate::leave::{ending, left};
+use crate::pieces::loose_fault;
 use crate::rest::has_code;
 use crate::rule::{Rule, Side};
 use brisk_rules::Why;
-use brisk_async::copy_program;
-use brisk_basic::{Basic, apply};
+use brisk_basic::{Basic, apply, refusal};
 use brisk_derivation::{BasicStep, SideFault, Step};
 use brisk_seq::{Body, Seq, SeqProgram};
 use brisk_state::{State, Thread};
-use brisk_syntax::Program;
+use brisk_syntax::{Program, copy_program};
 use brisk_values::{Name, NoMemory};
 use std::alloc::Global;
 use std::marker::Model;
@@ -41,8 +41,7 @@ pub struct Walk {
 }
 
 impl Model for Walk {
-    ghost use Rattle.std.specs.Prelude.{◌≡◌, true};
-    ghost use Rattle.brisk_syntax.specs.Classes.{has_no_loose};
+    ghost use Rattle.brisk_syntax.specs.WellTyped.{IsProgramWellTyped};
     ghost use Rattle.brisk_loops.specs.Walk.{Walked};
     ghost use Rattle.brisk_loops.specs.WalkStored.{coded_walked};
     ghost use Rattle.brisk_rules.specs.Derives.{items_in, rule_of as rule_by};
@@ -54,16 +53,16 @@ impl Model for Walk {
 
     ghost view = { λ w. record { program = w.program; state = w.state; items = w.items; entered = opened_by w.program w.rules.items; applied = w.applied; counted = w.counted } };
 
-    ghost invariant = { λ w. AreEntered w.program w.rules.items × (has_no_loose w.program ≡ true) };
+    ghost invariant = { λ w. AreEntered w.program w.rules.items × IsProgramWellTyped w.program };
 }
 
 impl Walk {
-    /// A walk that begins. The tests for loose channels are to be written: no channel is loose.
-    pub fn start(alloc: Global, program: Program) -> Result<Walk, NoMemory>
-        requires typed { IsProgramWellTyped program }
-        requires strict { has_no_loose program ≡ true }
-        ensures { IfOk result (λ w. w ≡ start program) }
+    /// A walk that begins.
+    pub fn start(alloc: Global, program: &Program) -> Result<Walk, NoMemory>
+        requires { IsProgramWellTyped program.now }
+        ensures { IfOk result (λ w. w ≡ start program.now) }
     {
+        let program = copy_program(alloc, program)?;
         let state = State::initial(alloc, &program)?;
         Ok(Walk {
             alloc,
@@ -134,7 +133,6 @@ impl Walk {
 
     /// Goes back to the start. The number of rules applied stays.
     pub fn rewind(&mut self) -> Result<(), NoMemory>
-        requires { IsProgramWellTyped self.old.program }
         ensures ok { IfOk result (λ _. self.new ≡ rewound self.old) }
         ensures err { OnErr result (self.new ≡ self.old) }
     {
@@ -157,7 +155,13 @@ impl Walk {
         if self.items.items.reserve(1).is_err() {
             return Err(AcceptFault::NoMemory);
         }
-        match apply(self.alloc, &mut self.state, &rule_of(step)) {
+        let rule = rule_of(step);
+        let fault = loose_fault(self.alloc, &self.program, &self.rules, &self.state, &rule)?;
+        if let Some(fault) = fault {
+            let own = refusal(&self.state, &rule);
+            return Err(told_first(self.counted, own, fault));
+        }
+        match apply(self.alloc, &mut self.state, &rule) {
             Err(why) => Err(told(self.counted, why)),
             Ok(statement) => {
                 add(&mut self.items.items, statement);
@@ -235,14 +239,43 @@ impl Walk {
         }
     }
 
-    /// Closes the innermost rule. To be written.
+    /// Closes the innermost rule. Where a test fails, or there is no memory, nothing changes.
     pub fn leave(&mut self) -> Result<(), AcceptFault>
         ensures ok { IfOk result (λ _. Gives (left_by self.old) self.new) }
         ensures err { OnErr result (self.new ≡ self.old) }
         ensures cause { IfErr result (λ f. Fails (left_by self.old) f) }
     {
-        let _state = &self.state;
-        Err(AcceptFault::NoMemory)
+        let Some(rule) = self.rules.pop() else {
+            return Ok(());
+        };
+        let mut rule = rule;
+        if rule.items.items.reserve(1).is_err() {
+            self.rules.push_reserved(rule);
+            return Err(AcceptFault::NoMemory);
+        }
+        match ending(self.alloc, &rule, &self.state) {
+            Err(why) => {
+                self.rules.push_reserved(rule);
+                Err(refused(self.counted, why))
+            }
+            Ok(None) => {
+                self.rules.push_reserved(rule);
+                Ok(())
+            }
+            Ok(Some(ended)) => {
+                let none = Body {
+                    items: Vec::new(self.alloc),
+                };
+                let body = mem::replace(&mut self.items, none);
+                let side = rule.side;
+                let mut items = rule.items.items;
+                items.push_reserved(left(self.alloc, ended, side, body, &mut self.state));
+                self.items = Body { items };
+                self.applied = self.applied.saturating_add(1);
+                self.counted = self.counted.saturating_add(1);
+                Ok(())
+            }
+        }
     }
 
     /// The sequential program of a walk to the end.

@@ -6,17 +6,11 @@ mod expressions;
 mod fault;
 mod laws;
 mod level;
-#[cfg(test)]
-mod limit_tests;
 mod lists;
 mod reader;
 mod roles;
-#[cfg(test)]
-mod sequence_tests;
 mod sequences;
 mod statements;
-#[cfg(test)]
-mod tests;
 
 pub use fault::ParseFault;
 pub use laws::limits;

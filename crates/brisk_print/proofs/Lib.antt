@@ -1,6 +1,1 @@
-pub mod Denoted
-pub mod ReadExpressions
-pub mod ReadPrograms
-pub mod ReadSequential
-pub mod Texts
 pub mod Written

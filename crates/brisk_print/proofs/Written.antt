@@ -2,7 +2,8 @@
 use Rattle.std.proofs.Common.{◌≡◌, ℕ, ◌+◌, ◌<◌, ◌≤◌, List, ◌∷◌, ◌++◌, length, drop, map, get_or, sym, ap, ◌∙◌, append_assoc, append-nil}
 use Rattle.std.specs.Prelude.{codes}
 use Rattle.std.proofs.lemmas.List.{at_drop_more, at_drop_all}
-use Rattle.brisk_print.specs.Layout.{Text, behind_commas, with_commas, joined}
+use Rattle.brisk_text.specs.Values.{Text}
+use Rattle.brisk_print.specs.Layout.{behind_commas, with_commas, joined}
 
 module _ {T : Type 0} (text : T → Text) where
   -- one more piece

@@ -1,16 +1,15 @@
 -- The layout of programs and of their parts, as bytes, by recursion on the tree. Two spaces of indentation stand for
 -- each level, and one line for each declaration, statement, item and closing bracket.
 use Rattle.std.specs.Prelude.{ℕ, Bool, true, false, ◌&&◌, List, [], ◌∷◌, ◌++◌, map, codes}
-use Rattle.std.specs.Fmt.{decimal, signed_decimal}
+use Rattle.std.specs.Fmt.{decimal}
 use Rattle.brisk_values.specs.Names.{Name}
-use Rattle.brisk_values.specs.declared.value.Value.{Value}
-use Rattle.brisk_values.specs.declared.value.Value.TheVariants as value
 use Rattle.brisk_values.specs.declared.value.Kind.{Kind}
 use Rattle.brisk_values.specs.declared.value.Kind.TheVariants as kinds
 use Rattle.brisk_values.specs.declared.operation.Op1.{Op1}
 use Rattle.brisk_values.specs.declared.operation.Op1.TheVariants as op1
 use Rattle.brisk_values.specs.declared.operation.Op2.{Op2}
 use Rattle.brisk_values.specs.declared.operation.Op2.TheVariants as op2
+use Rattle.brisk_text.specs.Values.{Text, truth, tag}
 use Rattle.brisk_syntax.specs.declared.program.Const.{Const}
 use Rattle.brisk_syntax.specs.declared.program.Const.TheVariants as const
 use Rattle.brisk_syntax.specs.declared.program.Decl.{Decl}
@@ -25,9 +24,6 @@ use Rattle.brisk_syntax.specs.Syntax.{Expression, Num, Truth, Var, Tag, Size, Pa
 use Rattle.brisk_seq.specs.declared.tree.SeqProgram.{SeqProgram}
 use Rattle.brisk_seq.specs.Items as items
 use Rattle.brisk_seq.specs.Items.{Item, Items, nothing, ◌⨟◌}
-
-abbrev pub Text : Type 0
-Text = List ℕ
 
 -- each piece behind a comma and a space
 abbrev pub behind_commas : List Text → Text
@@ -52,21 +48,7 @@ deeper margin = margin ++ codes "  "
 abbrev pub line : Text → Text → Text
 line margin text = margin ++ text ++ codes "\n"
 
--- ---- values and expressions
-
-abbrev pub truth : Bool → Text
-truth true = codes "true"
-truth false = codes "false"
-
--- a tag with its enumeration
-abbrev pub tag : Name → Name → Text
-tag e x = e ++ codes "." ++ x
-
--- a value, as an answer shows it
-abbrev pub value_text : Value → Text
-value_text (value.Int n) = signed_decimal n
-value_text (value.Bool b) = truth b
-value_text (value.Tag e x) = tag e x
+-- ---- expressions
 
 abbrev pub operator1 : Op1 → Text
 operator1 op1.Neg = codes "-"

@@ -4,8 +4,9 @@ ghost use Rattle.brisk_syntax.specs.Texts.{text_of};
 ghost use Rattle.brisk_print.specs.Layout as layout;
 
 use crate::expressions::put_names;
-use crate::pieces::{Piece, put, put_all, put_number, put_tag, put_truth, put_with_commas};
+use crate::pieces::{Piece, put_all, put_with_commas};
 use brisk_syntax::{Channel, Const, Decl, EnumDecl, Role};
+use brisk_text::{put, put_number, put_tag, put_truth};
 use brisk_values::NoMemory;
 
 fn put_constant(out: &mut Vec<u8>, constant: &Const) -> Result<(), NoMemory>

@@ -3,8 +3,9 @@ ghost use Rattle.std.specs.Prelude.{◌≡◌, ◌++◌, OnOk};
 ghost use Rattle.brisk_syntax.specs.Expressions.{expression_of};
 ghost use Rattle.brisk_print.specs.Layout as layout;
 
-use crate::pieces::{Piece, put, put_number, put_tag, put_truth, put_with_commas};
+use crate::pieces::{Piece, put_with_commas};
 use brisk_syntax::{Expr, Exprs, Names};
+use brisk_text::{put, put_number, put_tag, put_truth};
 use brisk_values::{NoMemory, Op1, Op2};
 
 impl Piece for Expr {

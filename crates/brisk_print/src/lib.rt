@@ -3,17 +3,11 @@
 
 mod declarations;
 mod expressions;
-mod laws;
 mod lines;
 mod pieces;
 mod programs;
 mod sequential;
-#[cfg(test)]
-mod tests;
-#[cfg(test)]
-mod worked;
 
-pub use laws::{program_layouts, sequential_layouts};
-pub use pieces::{print_value, put, put_number, put_value};
+pub use brisk_text::print_value;
 pub use programs::{print_head, print_program};
 pub use sequential::print_seq;

@@ -2,7 +2,7 @@
 ghost use Rattle.std.specs.Prelude.{◌≡◌, ◌++◌, IfOk, OnOk};
 ghost use Rattle.brisk_print.specs.Layout as layout;
 
-use crate::pieces::put;
+use brisk_text::put;
 use brisk_values::NoMemory;
 use std::alloc::Global;
 

@@ -8,8 +8,9 @@ ghost use Rattle.brisk_print.specs.Layout as layout;
 use crate::declarations::put_role_heading;
 use crate::expressions::{put_expression, put_expressions, put_names};
 use crate::lines::{deeper, put_line};
-use crate::pieces::{put, put_all, put_number};
+use crate::pieces::put_all;
 use brisk_syntax::{Block, Expr, Names, Program, Role, Stmt, Who};
+use brisk_text::{put, put_number};
 use brisk_values::{Name, NoMemory};
 use std::alloc::Global;
 

@@ -6,9 +6,10 @@ ghost use Rattle.brisk_print.specs.Layout as layout;
 
 use crate::expressions::{put_expression, put_expressions, put_names};
 use crate::lines::{deeper, put_line};
-use crate::pieces::{put, put_all, put_number};
+use crate::pieces::put_all;
 use brisk_seq::{Body, Fill, Pass, Seq, SeqProgram, Take};
 use brisk_syntax::{Expr, Exprs, Names, Roles};
+use brisk_text::{put, put_number};
 use brisk_values::{Name, NoMemory};
 use std::alloc::Global;
 

@@ -4,11 +4,14 @@
 mod partner;
 mod question;
 mod quietness;
+mod sender;
 mod stillness;
 mod taken;
 #[cfg(test)]
 mod tests;
+mod unsent;
 mod walk;
 
 pub use quietness::quiet;
+pub use sender::{Piece, sender_quiet};
 pub use stillness::Stillness;

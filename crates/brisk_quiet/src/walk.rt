@@ -116,7 +116,7 @@ fn in_statement(
 
 // A loop may take no turn, so what its body takes isn't counted.
 #[cycle(walk)]
-fn in_loop(
+pub(crate) fn in_loop(
     asked: &Question,
     receiver: &Option<Who>,
     body: &Block,

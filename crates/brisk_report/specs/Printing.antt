@@ -13,7 +13,8 @@ use Rattle.brisk_derivation.specs.Steps.{Step, Branch, Steps}
 use Rattle.brisk_rules.specs.Following.{nothing_follows}
 use Rattle.brisk_rules.specs.Derives.{Failure, Derived, derive_all}
 use Rattle.brisk_rules.specs.Reports.{premise_of}
-use Rattle.brisk_print.specs.Layout.{Text, head}
+use Rattle.brisk_print.specs.Layout.{head}
+use Rattle.brisk_text.specs.Values.{Text}
 use Rattle.brisk_report.specs.Lines.{word, rule_text, steps_text}
 
 -- a test that failed: its name, and the thread that it names

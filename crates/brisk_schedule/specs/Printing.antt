@@ -12,7 +12,8 @@ use Rattle.brisk_syntax.specs.Syntax.{Code, done, ◌⨾◌}
 use Rattle.brisk_syntax.specs.Typing.{is_set}
 use Rattle.brisk_syntax.specs.Value.{or_false}
 use Rattle.brisk_instance.specs.Begun.{members_of}
-use Rattle.brisk_print.specs.Layout.{Text, head, value_text}
+use Rattle.brisk_text.specs.Values.{Text, value_text}
+use Rattle.brisk_print.specs.Layout.{head}
 use Rattle.brisk_lines.specs.Lines.{process_text}
 use Rattle.brisk_async.specs.declared.fault.StepFault.{StepFault}
 use Rattle.brisk_async.specs.declared.fault.StepFault.TheVariants as fault

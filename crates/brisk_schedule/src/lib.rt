@@ -11,8 +11,6 @@ mod played;
 mod printed;
 mod reading;
 mod schedule;
-#[cfg(test)]
-mod tests;
 mod writing;
 
 pub use fault::ScheduleFault;

@@ -13,9 +13,10 @@ use crate::writing::process_of;
 use brisk_async::{Machine, Queue, StepFault};
 use brisk_instance::members_of;
 use brisk_lines::put_process;
-use brisk_print::{print_head, put, put_number, put_value};
+use brisk_print::print_head;
 use brisk_seq::SeqProgram;
 use brisk_syntax::{Program, Role, Roles};
+use brisk_text::{put, put_number, put_value};
 use brisk_values::{Instance, Name, NoMemory, Pid, Sizes, Store, Value};
 use std::alloc::Global;
 

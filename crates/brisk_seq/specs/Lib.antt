@@ -4,7 +4,6 @@ pub mod Depths
 pub mod Falls
 pub mod Items
 pub mod Running
-pub mod Sample
 pub mod Seen
 pub mod Sequential
 pub mod Stored

@@ -8,13 +8,11 @@ use Rattle.std.specs.FinMap.Entries.{find-put, find-where_key}
 use Rattle.std.specs.declared.cmp.Ordering.{Ordering}
 use Rattle.std.specs.declared.cmp.Ordering.TheVariants.{Less, Equal, Greater}
 use Rattle.std.proofs.lemmas.Bool.{eqb-true}
-use base.Stored.{Gv, gnil, gnum, gcons}
 use lib.Pointwise.{pointwise}
 use Rattle.brisk_values.specs.declared.value.Value.{Value}
 use Rattle.brisk_values.specs.Names.{Name, same_name}
 use Rattle.brisk_values.proofs.Changes.{exact_name, both_true}
 use Rattle.brisk_syntax.specs.Syntax.{Code, done}
-use Rattle.brisk_syntax.specs.Stored as stored
 use Rattle.brisk_facts.specs.Facts.{Place, place_cmp, Facts, fact, facts_where, is_known, is_fact, joined}
 use Rattle.brisk_state.specs.declared.thread.Thread.{Thread}
 use Rattle.brisk_state.specs.Same.{same_code}

@@ -1,9 +1,9 @@
 -- The rules of one thread: from the tests of entry and close to what they say of readings.
-use Rattle.std.proofs.Common.{◌≡◌, zero, suc, Bool, true, false, List, Option, Some, None, cond, refl, sym, ap, ◌∙◌, subst}
+use Rattle.std.proofs.Common.{◌≡◌, Bool, true, false, List, Option, Some, None, cond, refl, sym, ap, ◌∙◌, subst}
 use lib.Pointwise.{pointwise}
 use Rattle.std.specs.FinMap.{find}
 use Rattle.std.proofs.lemmas.Option.{same_Some}
-use Rattle.std.specs.Prelude.{if◌then◌else◌, ◌&&◌, ◌||◌, not, Result, Ok, Err}
+use Rattle.std.specs.Prelude.{if◌then◌else◌, ◌&&◌, ◌||◌, not, Ok}
 use Rattle.brisk_values.specs.declared.value.Value.{Value}
 use Rattle.brisk_values.specs.Functions.{changed}
 use Rattle.brisk_values.specs.Names.{Name, same_name}
@@ -18,16 +18,14 @@ use Rattle.brisk_state.specs.declared.thread.Mode.{Mode}
 use Rattle.brisk_state.specs.declared.thread.Mode.TheVariants.{One, At, Each}
 use Rattle.brisk_state.specs.declared.thread.Thread.{Thread}
 use Rattle.brisk_state.specs.Same.{same_code}
-use Rattle.brisk_state.specs.Symbolic.{Symbolic, with_code, code_at, same_mode, same_thread, same_but_facts, same_pending, numbers_at}
-use Rattle.brisk_basic.specs.Basic.{at_thread}
-use Rattle.brisk_basic.specs.Outcomes.{when, and_then, told_as}
+use Rattle.brisk_state.specs.Symbolic.{Symbolic, with_code, same_mode, same_thread, same_but_facts, same_pending, numbers_at}
 use Rattle.brisk_derivation.specs.declared.steps.Fact.{Fact}
 use Rattle.brisk_derivation.specs.declared.fault.SideFault.TheVariants.{BranchesDiffer}
-use Rattle.brisk_rules.specs.declared.why.Why.TheVariants.{Rule, Side}
+use Rattle.brisk_rules.specs.declared.why.Why.TheVariants.{Side}
 use Rattle.brisk_rules.specs.Heads.{Fork, fork_of, Guarded, while_of, Loop, repeat_of}
 use Rattle.brisk_rules.specs.Rules as rules
 use Rattle.brisk_rules.specs.Rules.{Outcome, wanted, at_head, without_drops, Everything, looks_at, looks_at_key, looks_at_code, unfocused, Kind, Entered, looks, entered_alone, enter_while, enter_repeat, Parted, around_sides, side, enter_branch, join}
-use Rattle.brisk_rules.proofs.Fulfilled.{and_then_ok, told_ok, same_ok, when_ok, at_head_ok, while_is, repeat_is}
+use Rattle.brisk_rules.proofs.Fulfilled.{same_ok, when_ok, at_head_ok, while_is, repeat_is}
 use Rattle.brisk_sound.proofs.After.{at_guard}
 use Rattle.brisk_sound.proofs.Closing.{Closed, first_none, finished, restored_codes, kept_numbers, kept_facts, not_dropped, facts_after, same_codes, pointwise_same, same_pendings, fact_where, known_is}
 use Rattle.brisk_sound.proofs.Control.{Weaker, sides}
@@ -41,7 +39,7 @@ use Rattle.brisk_sound.proofs.Kept.{Kept, kept_then, kept_weaker, kept_code, fir
 use Rattle.brisk_sound.proofs.Learnt.{learn_reads}
 use Rattle.brisk_sound.proofs.Loops.{Restored}
 use Rattle.brisk_rules.proofs.Readings.{Reading, reading, learnt}
-use Rattle.brisk_rules.proofs.Threads.{names, modes, codes, names_with_code, modes_with_code, codes_with_code, Moved, moved}
+use Rattle.brisk_rules.proofs.Threads.{names, modes, codes, names_with_code, modes_with_code, codes_with_code, Moved}
 
 -- A rule that was entered: its owners, and the piece that it puts behind their codes; the loop that it gives; a tidy state before it gives a tidy premise; and its close gives what
 -- the step is, the names that threads had, and what steps keep.

@@ -16,7 +16,7 @@ use Rattle.brisk_basic.specs.Basic.{Applied, apply}
 use Rattle.brisk_basic.specs.Outcomes.{and_then, told_as}
 use Rattle.brisk_derivation.specs.Steps.{Step, Basic, Branch, While, For, Repeat, Gather, Pick, Steps, no_steps, ◌▷◌}
 use Rattle.brisk_rules.specs.declared.why.Why.TheVariants.{Rule}
-use Rattle.brisk_rules.specs.Derives.{Derived, Failure, told_at, items_in, rule_of, apply_quietly, by_basic, by_loop, by_branch, derive, derive_all}
+use Rattle.brisk_rules.specs.Derives.{Derived, Failure, told_at, items_in, rule_of, apply_quietly, by_loop, by_branch, derive, derive_all}
 use Rattle.brisk_rules.specs.Following.{Follow, quiet_from, behind_head, loose_fault, follows_in}
 use Rattle.brisk_rules.proofs.Fulfilled.{and_then_ok, told_ok}
 use Rattle.brisk_sound.proofs.Outcomes.{no_fault}

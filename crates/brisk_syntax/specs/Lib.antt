@@ -1,3 +1,4 @@
+pub mod Centres
 pub mod Classes
 pub mod Counts
 pub mod Declarations

@@ -1,6 +1,8 @@
 //! Programs of processes: their trees, and what is done to a tree.
 #![tactic(auto)]
 
+mod classes;
+mod copies;
 mod copy;
 mod count;
 mod equal;
@@ -10,10 +12,10 @@ mod program;
 mod segments;
 mod stores;
 mod substitute;
-#[cfg(test)]
-mod tests;
 mod tree;
 
+pub use classes::{is_star, is_straight};
+pub use copies::copy_program;
 pub use copy::{code_from, copy_code, copy_expr, copy_exprs, copy_names};
 pub use count::statements;
 pub use equal::{same_code, same_expr};

@@ -4,6 +4,5 @@ pub mod Histories
 pub mod Instances
 pub mod Kept
 pub mod Nexts
-pub mod Sampled
 pub mod Steady
 pub mod Watched

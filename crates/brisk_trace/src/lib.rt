@@ -7,8 +7,6 @@ mod overtaking;
 mod plain;
 mod runs;
 mod standing;
-#[cfg(test)]
-mod tests;
 mod watch;
 
 pub use deadlock::to_deadlock;

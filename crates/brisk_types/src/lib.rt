@@ -16,8 +16,6 @@ mod processes;
 mod programs;
 mod sequences;
 mod statements;
-#[cfg(test)]
-mod tests;
 
 pub use agreement::{agreed, seq_agreed, seq_within, within};
 pub use fault::TypeFault;

@@ -1,6 +1,6 @@
 use Rattle.std.proofs.Common.{◌≡◌, rules}
 use Rattle.std.specs.Prelude.{codes}
-use Rattle.brisk_print.specs.Layout.{value_text}
+use Rattle.brisk_text.specs.Values.{value_text}
 use Rattle.brisk_lines.specs.Lines.{IsLegalValue}
 use Rattle.brisk_lines.proofs.Cuts.{nothing_read}
 use Rattle.brisk_lines.proofs.Sides.{no_value}

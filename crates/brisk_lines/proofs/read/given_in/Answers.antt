@@ -2,7 +2,7 @@ use Rattle.std.proofs.Common.{sym, subst, ◌∙◌}
 use Rattle.std.specs.Prelude.{codes}
 use Rattle.std.proofs.lemmas.List.{append_cancel_left}
 use Rattle.brisk_lex.specs.Spelled.{IsName}
-use Rattle.brisk_print.specs.Layout.{value_text}
+use Rattle.brisk_text.specs.Values.{value_text}
 use Rattle.brisk_lines.specs.Pieces.{given_text, IsLegalGiven}
 use Rattle.brisk_lines.proofs.Cuts.{nothing_read}
 use Rattle.brisk_lines.proofs.Sides.{given_parts}

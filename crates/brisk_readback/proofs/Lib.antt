@@ -1,0 +1,5 @@
+pub mod Denoted
+pub mod ReadExpressions
+pub mod ReadPrograms
+pub mod ReadSequential
+pub mod Texts

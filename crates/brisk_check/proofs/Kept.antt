@@ -9,7 +9,8 @@ use Rattle.brisk_derivtext.specs.declared.line.Format.{Format}
 use Rattle.brisk_derivtext.specs.declared.line.Format.TheVariants.{Format1, Format2}
 use Rattle.brisk_derivtext.specs.declared.line.Line.{Line}
 use Rattle.brisk_derivtext.specs.declared.line.Line.TheVariants.{Head, Plain, Fork, Enter, Else, Join, Close, End, Part, EndPart, Use}
-use Rattle.brisk_derivtext.specs.Reading.{Open, Body, empty, put, ◌then◌, lines_around, lines_so_far, Reading, start, with_body, with_steps, part_named, used, is_empty, is_whole, part_ended, behind_head, at_head, in_format, next}
+use Rattle.brisk_derivtext.specs.declared.open.Open.{Open}
+use Rattle.brisk_derivtext.specs.Reading.{Body, empty, put, ◌then◌, lines_around, lines_so_far, Reading, start, with_body, with_steps, part_named, used, is_empty, is_whole, part_ended, behind_head, at_head, in_format, next}
 use Rattle.brisk_derivtext.specs.Texts.{lines_of, most_nested}
 use Rattle.brisk_derivtext.proofs.Putting.{grows, lines_then}
 use Rattle.brisk_check.specs.Checking.{calls_in, lines_if, stands_for, calls_for}

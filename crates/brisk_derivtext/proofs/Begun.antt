@@ -9,7 +9,9 @@ use Rattle.brisk_derivtext.specs.declared.line.Line.{Line}
 use Rattle.brisk_derivtext.specs.declared.line.Line.TheVariants.{Head, Plain, Fork, Enter, Else, Join, Close, End, Part, EndPart, Use}
 use Rattle.brisk_derivtext.specs.Lines.{IsLegal}
 use Rattle.brisk_derivtext.specs.Laws.{LinesBegin, BeginningsStand}
-use Rattle.brisk_derivtext.specs.Reading.{Open, InLoop, InFirst, InSecond, Body, empty, put, ◌then◌, around, lines_so_far, Reading, start, with_steps, is_empty, in_format, within_bytes, bounded, and_then, read_line, read_all}
+use Rattle.brisk_derivtext.specs.declared.open.Open.{Open}
+use Rattle.brisk_derivtext.specs.declared.open.Open.TheVariants.{InLoop, InFirst, InSecond}
+use Rattle.brisk_derivtext.specs.Reading.{Body, empty, put, ◌then◌, around, lines_so_far, Reading, start, with_steps, is_empty, in_format, within_bytes, bounded, and_then, read_line, read_all}
 use Rattle.brisk_derivtext.specs.Texts.{lines_of, derivation_lines, most_nested}
 use Rattle.brisk_derivtext.proofs.Once.{first_read, no_ok, same_ok}
 use Rattle.brisk_derivtext.proofs.Putting.{go_on, put_all, grows, all_grow, IsNested, stays_nested, all_nested}

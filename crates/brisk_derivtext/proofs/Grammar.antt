@@ -12,7 +12,9 @@ use Rattle.brisk_derivtext.specs.declared.line.Line.{Line}
 use Rattle.brisk_derivtext.specs.declared.line.Line.TheVariants.{Head, Plain, Fork, Enter, Else, Join, Close, End, Part, EndPart, Use}
 use Rattle.brisk_derivtext.specs.Lines.{IsLegal}
 use Rattle.brisk_derivtext.specs.Parts.{Place, Step, Forked, Looped, Used, Places, nowhere, ◌⊳◌, place_lines, places_lines, both_steps, forked, put_in, in_place, Written, part_lines, parts_lines, AreWithin, PartsStand}
-use Rattle.brisk_derivtext.specs.Reading.{Ended, Reading, start, part_named, used, with_steps, around, ◌then◌, Open, InLoop, InFirst, InSecond, Body, empty, in_rule, second_side, joined, closed, is_empty, put, lines_around, lines_so_far, within_bytes, bounded, and_then, read_all}
+use Rattle.brisk_derivtext.specs.declared.open.Open.{Open}
+use Rattle.brisk_derivtext.specs.declared.open.Open.TheVariants.{InLoop, InFirst, InSecond}
+use Rattle.brisk_derivtext.specs.Reading.{Ended, Reading, start, part_named, used, with_steps, around, ◌then◌, Body, empty, in_rule, second_side, joined, closed, is_empty, put, lines_around, lines_so_far, within_bytes, bounded, and_then, read_all}
 use Rattle.brisk_derivtext.specs.Texts.{text_of_lines, lines_of, most_nested, AreFew}
 use Rattle.brisk_derivtext.proofs.Once.{same_some, same_ok, no_ok, first_read}
 use Rattle.brisk_derivtext.proofs.Putting.{then_nothing, then_assoc, depth_then, entered_inverse, IsNested, stays_nested, nothing_put, same_body}

@@ -11,7 +11,9 @@ use Rattle.brisk_derivtext.specs.declared.line.Loop.{Loop}
 use Rattle.brisk_derivtext.specs.declared.line.Line.{Line}
 use Rattle.brisk_derivtext.specs.declared.line.Line.TheVariants.{Head, Plain, Fork, Enter, Else, Join, Close, End, EndPart, Use}
 use Rattle.brisk_derivtext.specs.Parts.{Place, Step, Forked, Looped, Used, Places, nowhere, ◌⊳◌, place_lines, places_lines, both_steps, forked, put_in, in_place, Written, part_lines, parts_lines, AreWithin, PartsStand}
-use Rattle.brisk_derivtext.specs.Reading.{Ended, Reading, part_named, used, with_steps, around, ◌then◌, Open, InLoop, InFirst, InSecond, Body, empty, add, in_rule, put, lines_around, lines_so_far, bounded, and_then, read_all}
+use Rattle.brisk_derivtext.specs.declared.open.Open.{Open}
+use Rattle.brisk_derivtext.specs.declared.open.Open.TheVariants.{InLoop, InFirst, InSecond}
+use Rattle.brisk_derivtext.specs.Reading.{Ended, Reading, part_named, used, with_steps, around, ◌then◌, Body, empty, add, in_rule, put, lines_around, lines_so_far, bounded, and_then, read_all}
 use Rattle.brisk_derivtext.specs.Texts.{lines_of, most_nested, AreFew}
 use Rattle.brisk_derivtext.proofs.Once.{same_some}
 use Rattle.brisk_derivtext.proofs.Putting.{behind_body, then_nothing, then_assoc, lines_then, depth_then, loop_depth, grows}

@@ -6,7 +6,9 @@ use Rattle.brisk_derivation.specs.Steps.{Steps, no_steps}
 use Rattle.brisk_derivtext.specs.declared.line.Line.{Line}
 use Rattle.brisk_derivtext.specs.declared.line.Line.TheVariants.{Head, Plain, Fork, Enter, Else, Join, Close, End, Part, EndPart, Use}
 use Rattle.brisk_derivtext.specs.declared.side.Side.TheVariants.{Premise, Second}
-use Rattle.brisk_derivtext.specs.Reading.{Open, InLoop, InFirst, InSecond, Body, in_rule, second_side, joined, closed, put}
+use Rattle.brisk_derivtext.specs.declared.open.Open.{Open}
+use Rattle.brisk_derivtext.specs.declared.open.Open.TheVariants.{InLoop, InFirst, InSecond}
+use Rattle.brisk_derivtext.specs.Reading.{Body, in_rule, second_side, joined, closed, put}
 use Rattle.brisk_derivtext.specs.Sides.{side_of, sides_of, into, crossed, out_of, put_side}
 use Rattle.brisk_derivtext.specs.Texts.{most_nested}
 

@@ -12,7 +12,8 @@ use Rattle.brisk_derivtext.specs.declared.line.Line.{Line}
 use Rattle.brisk_derivtext.specs.declared.line.Line.TheVariants.{Head, Plain, Fork, Enter, Else, Join, Close, End, Part, EndPart, Use}
 use Rattle.brisk_derivtext.specs.Lines.{IsLegal}
 use Rattle.brisk_derivtext.specs.Laws.{WrittenIsRead, ReadIsWritten, TextsDiffer}
-use Rattle.brisk_derivtext.specs.Reading.{◌then◌, Open, Body, empty, put, lines_around, lines_so_far, Ended, Reading, start, with_body, with_steps, is_empty, is_whole, part_ended, part_named, used, at_head, behind_head, in_format, next, TooLong, within_bytes, bounded, and_then, read_line, read_all, ComesTo}
+use Rattle.brisk_derivtext.specs.declared.open.Open.{Open}
+use Rattle.brisk_derivtext.specs.Reading.{◌then◌, Body, empty, put, lines_around, lines_so_far, Ended, Reading, start, with_body, with_steps, is_empty, is_whole, part_ended, part_named, used, at_head, behind_head, in_format, next, TooLong, within_bytes, bounded, and_then, read_line, read_all, ComesTo}
 use Rattle.brisk_derivtext.specs.Texts.{text_of_lines, lines_of, derivation_lines, most_bytes, most_nested, AreFew, HasText}
 use Rattle.brisk_derivtext.proofs.Appended.{texts_append}
 use Rattle.brisk_derivtext.proofs.Once.{first_read, no_ok, same_ok, same_some, read_once}

@@ -4,7 +4,9 @@ use Rattle.brisk_derivtext.specs.declared.line.Line.{Line}
 use Rattle.brisk_derivtext.specs.declared.line.Line.TheVariants.{Plain, Fork, Enter, Else, Join, Close}
 use Rattle.brisk_derivtext.specs.declared.side.Side.{Side}
 use Rattle.brisk_derivtext.specs.declared.side.Side.TheVariants.{Premise, First, Second}
-use Rattle.brisk_derivtext.specs.Reading.{Open, InLoop, InFirst, InSecond, Body}
+use Rattle.brisk_derivtext.specs.declared.open.Open.{Open}
+use Rattle.brisk_derivtext.specs.declared.open.Open.TheVariants.{InLoop, InFirst, InSecond}
+use Rattle.brisk_derivtext.specs.Reading.{Body}
 use Rattle.brisk_derivtext.specs.Texts.{most_nested}
 
 -- where in a rule the lines stand

@@ -7,8 +7,8 @@ ghost use Rattle.brisk_derivtext.specs.Texts.{derivation_text, first_line, lines
 ghost use Rattle.brisk_derivtext.specs.declared.line.Line.TheVariants.{Plain as plain, Close as close};
 
 use brisk_derivation::{BasicStep, Drops, Fact, Step, Steps};
-use brisk_text::{put, put_number};
 use brisk_syntax::Names;
+use brisk_text::{put, put_number};
 use brisk_values::{Name, NoMemory};
 use std::alloc::Global;
 

@@ -15,17 +15,17 @@ use Rattle.brisk_types.proofs.Agreeing.{is_typed}
 use Rattle.brisk_syntax.specs.declared.program.Program.{Program}
 use Rattle.brisk_cli.specs.declared.status.Status.{Status}
 use Rattle.brisk_cli.specs.declared.status.Status.TheVariants.{Done}
-use Rattle.brisk_cli.specs.Answers.{Answered, OfFile, OfRewriting, OfRewritingBy, OfSized, OfWords, is_failed, source_limit}
+use Rattle.brisk_cli.specs.Answers.{Answered, OfFile, OfSized, OfWords, is_failed, source_limit}
 use Rattle.brisk_cli.specs.Commands.{Command, command_of}
 use Rattle.brisk_cli.specs.Files.{Text}
-use Rattle.brisk_cli.specs.Fragment.{in_fragment}
 use Rattle.brisk_cli.specs.Headline.{Headline, IsFaithful}
 use Rattle.brisk_cli.specs.Languages.{OfCut, OfReading, OfText, OfTokens, OfTree, OfTyping, sources}
-use Rattle.brisk_cli.proofs.Derivable.{faithful}
+use Rattle.brisk_cli.specs.Rewriting.{OfRewriting}
+use Rattle.brisk_sound.proofs.Top.{sound}
 
 module _ (source text : Text) (end : ℕ) (ts : List Placed) (cuts : tokens source ≡ Ok ts) where
-  of_fragment : (P : Program) → Denotes ts P → IsChecked (failures P) (Ok tt) → (b : Bool) → in_fragment P ≡ b → OfRewritingBy b P Done text → IsFaithful source text
-  of_fragment P holds none true fragment h =
+  of_rewriting : (P : Program) → Denotes ts P → IsChecked (failures P) (Ok tt) → OfRewriting P Done text → IsFaithful source text
+  of_rewriting P holds none h =
       let typed = is_typed P none in record {
         cut = ts;
         cuts = cuts;
@@ -34,12 +34,11 @@ module _ (source text : Text) (end : ℕ) (ts : List Placed) (cuts : tokens sour
         typed = typed;
         sequential = h.0;
         is_layout = h.2;
-        faithful = faithful P h.0 typed fragment h.1;
+        faithful = sound P h.1.0 h.0 typed h.1.1;
       }
-  of_fragment P holds none false fragment h = let e = h.0 in cc
 
   of_typing : (P : Program) → Denotes ts P → (typing : Result (Unit {0}) TypeFault) → IsChecked (failures P) typing → OfTyping sources.word ts end typing (OfRewriting P) Done text → IsFaithful source text
-  of_typing P holds (Ok typed) checked h = of_fragment P holds checked (in_fragment P) refl h
+  of_typing P holds (Ok typed) checked h = of_rewriting P holds checked h
   of_typing P holds (Err fault) checked h = let e = h.0 in cc
 
   of_reading : (reading : Result Program ParseFault) → IsAnswer ts reading → OfReading sources.word ts end reading (OfTree sources ts end OfRewriting) Done text → IsFaithful source text

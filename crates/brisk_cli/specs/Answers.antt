@@ -1,9 +1,6 @@
 -- What is answered for words and files.
 use Rattle.std.specs.Prelude.{◌≡◌, ℕ, nat_eq, nat_le, Bool, true, false, IsTrue, List, [], length, take, codes, Option, Some, None, IfSome, Result, Ok, Err}
 use Rattle.brisk_io.specs.Causes.{Files, Rose}
-use Rattle.brisk_print.specs.Layout.{sequential}
-use Rattle.brisk_syntax.specs.declared.program.Program.{Program}
-use Rattle.brisk_seq.specs.declared.tree.SeqProgram.{SeqProgram}
 use Rattle.brisk_cli.specs.declared.answer.Answer.{Answer}
 use Rattle.brisk_cli.specs.declared.answer.Stopped.{Stopped}
 use Rattle.brisk_cli.specs.declared.answer.Stopped.TheVariants as stopped
@@ -11,11 +8,10 @@ use Rattle.brisk_cli.specs.declared.status.Status.{Status}
 use Rattle.brisk_cli.specs.declared.status.Status.TheVariants.{Done, Refused, Usage, BadInput, NoFile, ReadFault, WriteFault, NoMemory}
 use Rattle.brisk_cli.specs.Commands.{Command, Rewrite, Run, Order, command_of}
 use Rattle.brisk_cli.specs.Files.{Text, Put}
-use Rattle.brisk_cli.specs.Fragment.{in_fragment}
 use Rattle.brisk_cli.specs.Languages.{OfText, sources, sequences}
 use Rattle.brisk_cli.specs.Lines.{file_line}
 use Rattle.brisk_cli.specs.Orders.{OfChoices}
-use Rattle.brisk_cli.specs.Rewriting.{IsStuck, Sequenced}
+use Rattle.brisk_cli.specs.Rewriting.{OfRewriting}
 use Rattle.brisk_cli.specs.Runs.{OfSchedule}
 
 -- the number with which the program ends
@@ -28,23 +24,6 @@ number_of NoFile = 4
 number_of ReadFault = 4
 number_of WriteFault = 5
 number_of NoMemory = 6
-
--- ---- rewriting
-
--- the answer for a program of the fragment: its sequential program, or that it has none
-abbrev pub OfFragment : Program → Status → Text → Type 0
-OfFragment P Done text = (Q : SeqProgram) × Sequenced P Q × (text ≡ sequential Q)
-OfFragment P Refused text = IsStuck P.roles × (text ≡ codes "not sequenced\n")
-OfFragment P status text = ⊥
-
--- by whether the program is of the fragment: the answer for it, or that it isn't
-abbrev pub OfRewritingBy : Bool → Program → Status → Text → Type 0
-OfRewritingBy true P status text = OfFragment P status text
-OfRewritingBy false P status text = (status ≡ BadInput) × (text ≡ codes "source NotInFragment\n")
-
--- the answer for a well-typed program that is to be rewritten
-abbrev pub OfRewriting : Program → Status → Text → Type 0
-OfRewriting P status text = OfRewritingBy (in_fragment P) P status text
 
 -- ---- files
 

@@ -2,7 +2,6 @@ pub mod Answers
 pub mod Commands
 pub mod Files
 pub mod Formats
-pub mod Fragment
 pub mod Headline
 pub mod Languages
 pub mod Lines

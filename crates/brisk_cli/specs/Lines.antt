@@ -21,6 +21,10 @@ file_line name what = codes "file " ++ name ++ codes " " ++ what ++ codes "\n"
 abbrev pub numbered : Text → Text → ℕ → Text
 numbered word what n = word ++ codes " " ++ what ++ codes " " ++ decimal n ++ codes "\n"
 
+-- the line of a word and a number
+abbrev pub counted : Text → ℕ → Text
+counted word n = word ++ codes " " ++ decimal n ++ codes "\n"
+
 -- the line of a fault of tokens; want of memory has none
 abbrev pub lex_line : Text → LexFault → Option Text
 lex_line word (lex.NotUtf8 at) = Some (numbered word (codes "NotUtf8") at)

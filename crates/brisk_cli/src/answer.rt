@@ -39,6 +39,21 @@ impl Answer {
         })
     }
 
+    /// The answer with the line of a word and a number.
+    pub fn counted(
+        alloc: Global,
+        status: Status,
+        word: &str,
+        number: u64,
+    ) -> Result<Answer, NoMemory>
+        ensures { IfOk result (λ a. (a.status ≡ status) × (a.text.items ≡ spec.counted word.now number)) }
+    {
+        Ok(Answer {
+            status,
+            text: format!(in alloc; "{word} {number}\n")?.into_bytes(),
+        })
+    }
+
     /// The answer with the line of a word, what is told of it, and a number.
     pub fn numbered(
         alloc: Global,

@@ -9,6 +9,6 @@ mod steps;
 mod tests;
 
 pub use count::count_steps;
-pub use fault::{DerivFault, SideFault};
+pub use fault::SideFault;
 pub use report::{Report, Tries, Try, TryEnd};
 pub use steps::{BasicStep, Drops, Fact, Step, Steps};

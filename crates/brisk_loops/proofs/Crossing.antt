@@ -1,5 +1,5 @@
 -- How a walk passes to the second side of a branch.
-use Rattle.std.proofs.Common.{◌≡◌, ◌≢◌, ℕ, ◌+◌, ◌^◌, ◌<◌, List, [], ◌∷◌, ◌++◌, length, Option, Some, refl, sym, ap, ◌∙◌, subst}
+use Rattle.std.proofs.Common.{◌≡◌, ℕ, ◌+◌, ◌^◌, ◌<◌, List, [], ◌∷◌, ◌++◌, length, Option, Some, refl, sym, ap, ◌∙◌, subst}
 use Rattle.std.specs.Prelude.{None, Ok, Err}
 use Rattle.brisk_syntax.specs.declared.program.Program.{Program}
 use Rattle.brisk_seq.specs.Items.{Items, nothing}
@@ -11,8 +11,8 @@ use Rattle.brisk_loops.specs.declared.rule.Side.TheVariants as side
 use Rattle.brisk_rules.specs.Rules.{Outcome, Parted}
 use Rattle.brisk_loops.specs.Walk.{Inside, Premise, First, Second, Open, Walked, Called, entry, other, other_in, other_of, across}
 use Rattle.brisk_loops.specs.WalkKept.{kept}
-use Rattle.brisk_loops.specs.WalkSeen.{AreEntered, IsEntered, inside_of, open_of, opened_by, second_of, Gives}
-use Rattle.brisk_loops.proofs.Enters.{entered_fewer, entered_more, fits, one_opened}
+use Rattle.brisk_loops.specs.WalkSeen.{IsEntered, inside_of, open_of, opened_by, second_of, Gives}
+use Rattle.brisk_loops.proofs.Enters.{fits, one_opened}
 
 pub empty : {A : Type 0} (xs : List A) → length xs ≡ 0 → xs ≡ []
 empty [] h = refl
@@ -37,7 +37,7 @@ none_more w o more (Second r E X) h = refl
 
 goes_on : (S : Symbolic) (i : Inside) → Some S ≡ second_of i → (r : Parted) × (i ≡ First r) × (r.second ≡ S)
 goes_on S (Premise r) h = absurd cc
-goes_on S (First r) h = (r, refl, sym (ap (λ (z : Option Symbolic). elim z as (λ z. Symbolic) [ | None ↦ S | Some y ↦ y ]) h))
+goes_on S (First r) h = (r, refl, sym (ap (λ (z : Option Symbolic). elim z as (λ z. Symbolic) [ None ↦ S | Some y ↦ y ]) h))
 goes_on S (Second r E X) h = absurd cc
 
 module _ (P : Program) (S : Symbolic) (X : Items) (rs : List Rule) (a n : ℕ) (now : Walked)

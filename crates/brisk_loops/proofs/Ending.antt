@@ -1,6 +1,6 @@
 -- How a walk leaves a rule.
 use Rattle.std.proofs.Common.{◌≡◌, ℕ, ◌+◌, List, [], ◌∷◌, ◌++◌, length, refl, sym, ap, ◌∙◌, subst}
-use Rattle.std.specs.Prelude.{Ok, Err}
+use Rattle.std.specs.Prelude.{Some, Ok, Err}
 use Rattle.brisk_syntax.specs.declared.program.Program.{Program}
 use Rattle.brisk_seq.specs.Items.{Item, Items, nothing, ◌⨟◌, ◌followed_by◌}
 use Rattle.brisk_state.specs.Symbolic.{Symbolic}
@@ -16,9 +16,11 @@ use Rattle.brisk_loops.specs.declared.rule.Rule.{Rule}
 use Rattle.brisk_loops.specs.declared.rule.Side.{Side}
 use Rattle.brisk_loops.specs.declared.rule.Side.TheVariants as side
 use Rattle.brisk_rules.specs.Derives.{told_at}
-use Rattle.brisk_rules.specs.Rules.{Outcome, Entered, Parted, enter_branch, enter_while, enter_for, enter_repeat, enter_gather, enter_pick}
+use Rattle.brisk_rules.specs.Rules.{Outcome, Entered, Parted, around, close, enter_while, enter_for, enter_repeat, enter_gather, enter_pick}
 use Rattle.brisk_loops.specs.EnterSeen.{Refuses, refused_at}
-use Rattle.brisk_loops.specs.LeaveSeen.{ends, item_around, in_side, IsInFirst, IsPastFirst}
+use Rattle.brisk_loops.specs.LeaveSeen.{IsClosedBy, closed_state, EndsAs, ends, item_around, in_side, IsInFirst, IsPastFirst}
+use Rattle.brisk_loops.specs.declared.leave.Closed.{Closed}
+use Rattle.brisk_loops.specs.declared.leave.Ended.TheVariants.{Closes as by_close}
 use Rattle.brisk_loops.specs.Walk.{Inside, Premise, First, Second, Open, Walked, Called, entry, in_premise, leave, leave_in, leave_of, line, outside}
 use Rattle.brisk_loops.specs.WalkKept.{kept}
 use Rattle.brisk_loops.specs.WalkSeen.{AreEntered, IsEntered, inside_of, open_of, opened_by, Gives, Fails}
@@ -48,6 +50,15 @@ pub entered_branch : (x : Outcome Parted) (s : Side) (S : Symbolic) → IsEntere
 entered_branch (Ok r) side.First S h = (r, refl, refl)
 entered_branch (Ok r) (side.Second F Y) S h = (r, refl, refl)
 entered_branch (Err why) s S h = absurd h
+
+-- what a rule with one premise comes to, where it closes and where it doesn't
+pub closes_as : (x : Outcome Inside) (s : Side) (S E : Symbolic) (r : Entered) (d : Closed) → x ≡ Ok (Premise r) → IsClosedBy r E d → EndsAs (inside_of x s S) s E (Some (by_close d))
+closes_as x s S E r d is h =
+    subst (λ (z : Outcome Inside). EndsAs (inside_of z s S) s E (Some (by_close d))) (sym is)
+    (tt, h.1 ∙ (λ i. Ok (closed_state (sym h.0 i) d.owners.items d.facts E)), λ X i. around (sym h.0 i) X)
+
+pub refuses_as : (x : Outcome Inside) (s : Side) (S E : Symbolic) (r : Entered) (why : Refusal) → x ≡ Ok (Premise r) → Refuses (close r E) why → Refuses (ends (inside_of x s S) E) why
+refuses_as x s S E r why is h = subst (λ (z : Outcome Inside). Refuses (ends (inside_of z s S) E) why) (sym is) h
 
 -- what a rule gives past a first side
 left_so : (w : Walked) (o : Open) (more : List Open) (i : Inside) → IsPastFirst i → leave_in w o more i ≡ and_then (told_at (line w) (ends i w.state)) (λ T. Ok (outside w o more T (item_around i w.items)))

@@ -99,9 +99,11 @@ over s r c xs v b a false e is = absurd cc
 
 pub gather_heard : (code : Code) (a : AnyReceive) → Some a ≡ gather_in (head_of code) → IsHeard gather_of code a
 gather_heard (Repeat s zero (RecvAny c xs v r b ⨾ done) ⨾ rest) a is =
-    let h = over s r c xs v b a (same_name s r) refl is in
-    (rest, (λ i. cond (h.0 i) (Some record { channel = c; variables = xs; binder = v; set = s; body = b; rest = rest }) None)
-    ∙ (λ i. Some record { channel = c; variables = xs; binder = v; set = exact_name s r h.0 i; body = b; rest = rest }) ∙ ap (λ (z : AnyReceive). Some (before_rest z rest)) (sym h.1))
+    let h = over s r c xs v b a (same_name s r) refl is in (
+      rest,
+      (λ i. cond (h.0 i) (Some record { channel = c; variables = xs; binder = v; set = s; body = b; rest = rest }) None)
+          ∙ (λ i. Some record { channel = c; variables = xs; binder = v; set = exact_name s r h.0 i; body = b; rest = rest }) ∙ ap (λ (z : AnyReceive). Some (before_rest z rest)) (sym h.1),
+    )
 gather_heard code a is = absurd cc
 
 abbrev HearsAt : Symbolic → Name → List Fact → AnyReceive → Symbolic → Type 0
@@ -110,18 +112,22 @@ HearsAt S t drops a n = n ≡ record { threads = with_code t (from_focus a) (wit
 pub gather_starts : (S : Symbolic) (t : Name) (drops : List Fact) (code : Code) (a : AnyReceive) (n : Symbolic) → Some code ≡ code_at S t → Some a ≡ gather_in (head_of code) → is_at (mode_of (thread_named S.threads a.set)) ≡ false →
     HearsAt S t drops a n → StartsAt (enter_gather S t drops) n
 gather_starts S t drops code a n at is free next =
-    let h = gather_heard code a is in
-    (entered_any S t (before_rest a h.0) drops (rules.Gather t a.set a.channel),
-    at_code S t code gather_of (before_rest a h.0) (λ z. rules.not_focused (mode_of (thread_named S.threads z.set)) (Ok (entered_any S t z drops (rules.Gather t z.set z.channel)))) at h.1
-    ∙ open_set (mode_of (thread_named S.threads a.set)) _ free, sym next)
+    let h = gather_heard code a is in (
+      entered_any S t (before_rest a h.0) drops (rules.Gather t a.set a.channel),
+      at_code S t code gather_of (before_rest a h.0) (λ z. rules.not_focused (mode_of (thread_named S.threads z.set)) (Ok (entered_any S t z drops (rules.Gather t z.set z.channel)))) at h.1
+          ∙ open_set (mode_of (thread_named S.threads a.set)) _ free,
+      sym next,
+    )
 
 pub pick_starts : (P : Program) (S : Symbolic) (t : Name) (drops : List Fact) (code : Code) (a : AnyReceive) (n : Symbolic) → Some code ≡ code_at S t → Some a ≡ any_in (head_of code) → is_at (mode_of (thread_named S.threads a.set)) ≡ false →
     is_nonempty P a.set ≡ true → HearsAt S t drops a n → StartsAt (enter_pick P S t drops) n
 pick_starts P S t drops code a n at is free some next =
-    let h = any_heard code a is in
-    (entered_any S t (before_rest a h.0) drops (rules.Pick a.set),
-    at_code S t code any_of (before_rest a h.0) (λ z. rules.not_focused (mode_of (thread_named S.threads z.set)) (when (is_nonempty P z.set) (Side MayBeEmpty) (Ok (entered_any S t z drops (rules.Pick z.set))))) at h.1
-    ∙ open_set (mode_of (thread_named S.threads a.set)) _ free ∙ (λ i. when (some i) (Side MayBeEmpty) (Ok (entered_any S t (before_rest a h.0) drops (rules.Pick a.set)))), sym next)
+    let h = any_heard code a is in (
+      entered_any S t (before_rest a h.0) drops (rules.Pick a.set),
+      at_code S t code any_of (before_rest a h.0) (λ z. rules.not_focused (mode_of (thread_named S.threads z.set)) (when (is_nonempty P z.set) (Side MayBeEmpty) (Ok (entered_any S t z drops (rules.Pick z.set))))) at h.1
+          ∙ open_set (mode_of (thread_named S.threads a.set)) _ free ∙ (λ i. when (some i) (Side MayBeEmpty) (Ok (entered_any S t (before_rest a h.0) drops (rules.Pick a.set)))),
+      sym next,
+    )
 
 -- and the refusals of these
 pub gather_focused : (S : Symbolic) (t : Name) (drops : List Fact) (code : Code) (a : AnyReceive) → Some code ≡ code_at S t → Some a ≡ gather_in (head_of code) → is_at (mode_of (thread_named S.threads a.set)) ≡ true →

@@ -2,7 +2,6 @@
 use Rattle.std.proofs.Common.{◌≡◌, ℕ, ◌+◌, ◌^◌, ◌<◌, Bool, true, false, List, [], ◌∷◌, ◌++◌, map, reverse, length, refl, sym, ap, ◌∙◌, subst, arith}
 use Rattle.std.proofs.lemmas.List.{length-reverse, length-map, map-append, reverse-append}
 use Rattle.std.specs.Prelude.{Ok, nat_lt}
-use Rattle.brisk_values.specs.Names.{Name}
 use Rattle.brisk_syntax.specs.declared.program.Program.{Program}
 use Rattle.brisk_seq.specs.Items.{Items, nothing}
 use Rattle.brisk_state.specs.Symbolic.{Symbolic}

@@ -34,17 +34,17 @@ use Rattle.brisk_loops.proofs.Entering.{at_code, gather_heard, any_heard}
 -- a thread that the close doesn't look at, or that has another mode, changes no test
 pub code_moved : (look : Name → Bool) (t : Name) (c : Code) → ((u : Name) → same_name t u ≡ true → look u ≡ false) → (ts us : List Thread) → not_restored look (with_code t c ts) us ≡ not_restored look ts us
 code_moved look t c free [] us = refl
-code_moved look t c free (x ∷ ts) [] = elim (same_name t x.name) as (λ b. not_restored look (cond b (record x { code = c }) x ∷ with_code t c ts) [] ≡ None) [ | true ↦ refl | false ↦ refl ]
+code_moved look t c free (x ∷ ts) [] = elim (same_name t x.name) as (λ b. not_restored look (cond b (record x { code = c }) x ∷ with_code t c ts) [] ≡ None) [ true ↦ refl | false ↦ refl ]
 code_moved look t c free (x ∷ ts) (y ∷ us) =
     elim (same_name t x.name) as (λ b. same_name t x.name ≡ b → not_restored look (cond b (record x { code = c }) x ∷ with_code t c ts) (y ∷ us) ≡ not_restored look (x ∷ ts) (y ∷ us)) [
       | true ↦ λ s. (λ i. first_fault (cond (free x.name s i) (unless (same_code c y.code) (NotRestored x.name)) None ∷ code_moved look t c free ts us i ∷ []))
-                    ∙ (λ i. first_fault (cond (sym (free x.name s) i) (unless (same_code x.code y.code) (NotRestored x.name)) None ∷ not_restored look ts us ∷ []))
+          ∙ (λ i. first_fault (cond (sym (free x.name s) i) (unless (same_code x.code y.code) (NotRestored x.name)) None ∷ not_restored look ts us ∷ []))
       | false ↦ λ s. (λ i. first_fault (cond (look x.name) (unless (same_code x.code y.code) (NotRestored x.name)) None ∷ code_moved look t c free ts us i ∷ []))
     ] refl
 
 pub mode_moved : (look : Name → Bool) (s : Name) (m : Mode) (ts us : List Thread) → not_restored look (with_mode s m ts) us ≡ not_restored look ts us
 mode_moved look s m [] us = refl
-mode_moved look s m (x ∷ ts) [] = elim (same_name s x.name) as (λ b. not_restored look (cond b (record x { mode = m }) x ∷ with_mode s m ts) [] ≡ None) [ | true ↦ refl | false ↦ refl ]
+mode_moved look s m (x ∷ ts) [] = elim (same_name s x.name) as (λ b. not_restored look (cond b (record x { mode = m }) x ∷ with_mode s m ts) [] ≡ None) [ true ↦ refl | false ↦ refl ]
 mode_moved look s m (x ∷ ts) (y ∷ us) =
     elim (same_name s x.name) as (λ b. not_restored look (cond b (record x { mode = m }) x ∷ with_mode s m ts) (y ∷ us) ≡ not_restored look (x ∷ ts) (y ∷ us)) [
       | true ↦ (λ i. first_fault (cond (look x.name) (unless (same_code x.code y.code) (NotRestored x.name)) None ∷ mode_moved look s m ts us i ∷ []))
@@ -80,7 +80,7 @@ pub while_closes : (S : Symbolic) (t : Name) (drops : List Fact) (code : Code) (
     (record { name = t; rest = rest_of code } ∷ [] ≡ r.owners) × (rules.While t e ≡ r.kind)
 while_closes S t drops (While f c ⨾ rest) e b r at is enters =
     let h : entered_alone S t c rest (without_drops drops S.facts) (rules.While t f) ≡ r =
-        same_ok _ r (sym (at_code S t (While f c ⨾ rest) while_of _ (λ w. Ok (entered_alone S t w.body w.rest (without_drops drops S.facts) (rules.While t w.guard))) at refl) ∙ enters) in
+    same_ok _ r (sym (at_code S t (While f c ⨾ rest) while_of _ (λ w. Ok (entered_alone S t w.body w.rest (without_drops drops S.facts) (rules.While t w.guard))) at refl) ∙ enters) in
     (ap (λ (z : Entered). z.owners) h, (λ i. rules.While t (same_Some _ _ is i).0) ∙ ap (λ (z : Entered). z.kind) h)
 while_closes S t drops code e b r at is enters = absurd cc
 
@@ -88,7 +88,7 @@ pub repeat_closes : (S : Symbolic) (t : Name) (drops : List Fact) (code : Code) 
     (record { name = t; rest = rest_of code } ∷ [] ≡ r.owners) × (rules.Repeat s ≡ r.kind)
 repeat_closes S t drops (Repeat q zero c ⨾ rest) s b r at is enters =
     let h : entered_alone S t c rest (without_drops drops S.facts) (rules.Repeat q) ≡ r =
-        same_ok _ r (sym (at_code S t (Repeat q zero c ⨾ rest) repeat_of _ (λ w. Ok (entered_alone S t w.body w.rest (without_drops drops S.facts) (rules.Repeat w.set))) at refl) ∙ enters) in
+    same_ok _ r (sym (at_code S t (Repeat q zero c ⨾ rest) repeat_of _ (λ w. Ok (entered_alone S t w.body w.rest (without_drops drops S.facts) (rules.Repeat w.set))) at refl) ∙ enters) in
     (ap (λ (z : Entered). z.owners) h, (λ i. rules.Repeat (same_Some _ _ is i).0) ∙ ap (λ (z : Entered). z.kind) h)
 repeat_closes S t drops code s b r at is enters = absurd cc
 
@@ -120,7 +120,7 @@ pub gather_closes : (S : Symbolic) (t : Name) (drops : List Fact) (code : Code) 
 gather_closes S t drops code a r at is enters =
     let g = gather_heard code a is in
     let h : entered_any S t (record a { rest = g.0 }) drops (rules.Gather t a.set a.channel) ≡ r =
-        same_ok _ r (not_focused_ok (mode_of (thread_named S.threads a.set)) _ r (sym (at_code S t code gather_of _ (by_gather S t drops) at g.1) ∙ enters)) in
+    same_ok _ r (not_focused_ok (mode_of (thread_named S.threads a.set)) _ r (sym (at_code S t code gather_of _ (by_gather S t drops) at g.1) ∙ enters)) in
     ((λ i. record { name = t; rest = sym (gather_rest code _ g.1) i } ∷ []) ∙ ap (λ (z : Entered). z.owners) h, ap (λ (z : Entered). z.kind) h)
   where
     of_some : (b : Bool) (x a : AnyReceive) (rest : Code) → x.rest ≡ rest → cond b (Some x) None ≡ Some a → a.rest ≡ rest
@@ -139,7 +139,7 @@ pub pick_closes : (P : Program) (S : Symbolic) (t : Name) (drops : List Fact) (c
 pick_closes P S t drops code a r at is enters =
     let g = any_heard code a is in
     let h : entered_any S t (record a { rest = g.0 }) drops (rules.Pick a.set) ≡ r =
-        same_ok _ r (when_ok (is_nonempty P a.set) (Side MayBeEmpty) _ r (not_focused_ok (mode_of (thread_named S.threads a.set)) _ r (sym (at_code S t code any_of _ (by_pick P S t drops) at g.1) ∙ enters))).1 in
+    same_ok _ r (when_ok (is_nonempty P a.set) (Side MayBeEmpty) _ r (not_focused_ok (mode_of (thread_named S.threads a.set)) _ r (sym (at_code S t code any_of _ (by_pick P S t drops) at g.1) ∙ enters))).1 in
     ((λ i. record { name = t; rest = sym (any_rest code _ g.1) i } ∷ []) ∙ ap (λ (z : Entered). z.owners) h, ap (λ (z : Entered). z.kind) h)
   where
     any_rest : (code : Code) (a : AnyReceive) → any_of code ≡ Some a → a.rest ≡ rest_of code

@@ -1,6 +1,6 @@
 -- Walks whose numbers are kept do what walks do.
 use Rattle.std.proofs.Common.{◌≡◌, ℕ, ◌+◌, List, [], ◌∷◌, map, length, refl, ap, ◌∙◌, arith}
-use Rattle.std.specs.Prelude.{Option, Some, None, Result, Ok, Err}
+use Rattle.std.specs.Prelude.{Option, Some, None, Ok, Err}
 use Rattle.brisk_values.specs.Names.{Name}
 use Rattle.brisk_seq.specs.Items.{Item, ◌followed_by◌}
 use Rattle.brisk_state.specs.Symbolic.{Symbolic}
@@ -9,7 +9,6 @@ use Rattle.brisk_basic.specs.Outcomes.{and_then, told_as}
 use Rattle.brisk_derivation.specs.declared.fault.SideFault.TheVariants.{Unfinished}
 use Rattle.brisk_derivation.specs.Steps.{Step}
 use Rattle.brisk_rules.specs.declared.why.Why.TheVariants.{Side}
-use Rattle.brisk_rules.specs.Following.{Follow}
 use Rattle.brisk_rules.specs.Derives as derived
 use Rattle.brisk_rules.specs.Derives.{Failure, told_at, items_in, apply_quietly, nested, first_unfinished, sequential, unless_unfinished}
 use Rattle.brisk_rules.specs.Rules.{Outcome, around, around_sides, close, join}

@@ -1,33 +1,31 @@
 -- The owners of a `for`: the loops at which they stand, and where they stand behind them.
-use Rattle.std.proofs.Common.{◌≡◌, ℕ, ◌+◌, ◌<◌, Bool, true, false, cond, List, [], ◌∷◌, ◌++◌, map, reverse, length, take, drop, get_or, Option, Some, refl, sym, ap, ◌∙◌, subst, arith}
-use Rattle.std.specs.Prelude.{zero, suc, None, Result, Ok, Err, ◌&&◌, ◌||◌, not}
+use Rattle.std.proofs.Common.{◌≡◌, ℕ, ◌+◌, ◌<◌, Bool, true, false, cond, List, [], ◌∷◌, ◌++◌, map, reverse, length, take, drop, get_or, Option, Some, refl, sym, ap, ◌∙◌, subst}
+use Rattle.std.specs.Prelude.{zero, None, Ok, Err, ◌&&◌, ◌||◌, not}
 use Rattle.std.specs.List.{list_any}
-use Rattle.std.proofs.lemmas.List.{reverse-append, map-append, at_drop_more, append-nil, append_assoc}
+use Rattle.std.proofs.lemmas.List.{reverse-append, map-append, at_drop_more, append-nil, append_assoc, take_more}
 use Rattle.std.proofs.lemmas.Option.{same_Some}
-use Rattle.std.proofs.Math.Seq.{take-suc}
 use Rattle.brisk_values.specs.Names.{Name, same_name}
 use Rattle.brisk_values.proofs.Changes.{name_laws}
 use Rattle.brisk_syntax.specs.Segments.{head_of, rest_of}
 use Rattle.brisk_syntax.specs.Substitution.{code_with}
-use Rattle.brisk_syntax.specs.Syntax.{For, Code, done, ◌⨾◌}
+use Rattle.brisk_syntax.specs.Syntax.{For, Code, ◌⨾◌}
 use Rattle.brisk_syntax.specs.Typing.{is_among}
 use Rattle.brisk_syntax.specs.declared.tree.Who.TheVariants as who
 use Rattle.brisk_state.specs.declared.thread.Mode.{Mode}
 use Rattle.brisk_state.specs.declared.thread.Mode.TheVariants.{One, At, Each}
 use Rattle.brisk_state.specs.declared.thread.Thread.{Thread}
 use Rattle.brisk_state.specs.Symbolic.{Symbolic, code_at, thread_named, with_code, with_mode}
-use Rattle.brisk_basic.specs.declared.rule.RuleFault.TheVariants.{NoThread, WrongHead}
+use Rattle.brisk_basic.specs.declared.rule.RuleFault.TheVariants.{WrongHead}
 use Rattle.brisk_basic.specs.Basic.{at_thread}
 use Rattle.brisk_basic.specs.Outcomes.{when, and_then, told_as}
-use Rattle.brisk_derivation.specs.declared.fault.SideFault.TheVariants.{SetIsFocused}
 use Rattle.brisk_derivation.specs.declared.steps.Fact.{Fact}
 use Rattle.brisk_rules.specs.declared.why.Why.{Why}
-use Rattle.brisk_rules.specs.declared.why.Why.TheVariants.{Rule, Side}
+use Rattle.brisk_rules.specs.declared.why.Why.TheVariants.{Rule}
 use Rattle.brisk_rules.specs.Heads.{Loop, for_of}
 use Rattle.brisk_rules.specs.Rules.{Outcome, Owner, Entered, at_head, wanted, looks, looks_at, at_bodies, with_rests, loops_of, can_focus, mode_of, not_restored, without_drops, enter_for}
 use Rattle.brisk_rules.specs.Rules as rules
 use Rattle.brisk_loops.specs.CloseSeen.{is_looked_at}
-use Rattle.brisk_loops.specs.EnterSeen.{StartsAt, Refuses, AreBodies, IsBody, at_codes, focus_fault, loop_at}
+use Rattle.brisk_loops.specs.EnterSeen.{StartsAt, AreBodies, IsBody, at_codes, focus_fault, loop_at}
 use Rattle.brisk_loops.specs.HeadsSeen.{each_in}
 use Rattle.brisk_loops.specs.LeaveSeen.{StartsLike, owner_by, behind}
 use Rattle.brisk_rules.proofs.Fulfilled.{and_then_ok, same_ok, when_ok}
@@ -37,7 +35,7 @@ use Rattle.brisk_loops.proofs.Leaving.{code_moved, mode_moved}
 -- a name is among names in whatever order
 any_append : {A : Type 0} (f : A → Bool) (xs ys : List A) → list_any f (xs ++ ys) ≡ (list_any f xs || list_any f ys)
 any_append f [] ys = refl
-any_append f (x ∷ xs) ys = elim (f x) as (λ b. (b || list_any f (xs ++ ys)) ≡ ((b || list_any f xs) || list_any f ys)) [ | true ↦ refl | false ↦ any_append f xs ys ]
+any_append f (x ∷ xs) ys = elim (f x) as (λ b. (b || list_any f (xs ++ ys)) ≡ ((b || list_any f xs) || list_any f ys)) [ true ↦ refl | false ↦ any_append f xs ys ]
 
 or_swap : (a b : Bool) → (a || (b || false)) ≡ (b || a)
 or_swap true true = refl
@@ -70,8 +68,11 @@ pub stands_at_loop : (S : Symbolic) (s t : Name) (code : Code) (v : Name) (b : C
     loop_at S s t ≡ Ok record { set = s; body = code_with v (who.At s) b; rest = rest_of code }
 stands_at_loop S s t (For w r zero c ⨾ rest) v b at is = at_code S t (For w r zero c ⨾ rest) (for_of s) _ (λ l. Ok l) at (by (same_name s r) is)
   where
-    by : (q : Bool) → Some (v, b) ≡ cond q (Some (w, c)) None → cond q (Some record { set = s; body = code_with w (who.At s) c; rest = rest }) None ≡ Some record { set = s; body = code_with v (who.At s) b; rest = rest }
-    by true e = let p = same_Some (v, b) (w, c) e in λ i. Some record { set = s; body = code_with (sym p i).0 (who.At s) (sym p i).1; rest = rest }
+    looped : Name → Code → Loop
+    looped x d = record { set = s; body = code_with x (who.At s) d; rest = rest }
+
+    by : (q : Bool) → ◌≡◌ {A = Option (Name × Code)} (Some (v, b)) (cond q (Some (w, c)) None) → cond q (Some (looped w c)) None ≡ Some (looped v b)
+    by true e = let p = same_Some (v, b) (w, c) e in λ i. Some (looped (sym p i).0 (sym p i).1)
     by false e = cc
 stands_at_loop S s t code v b at is = absurd cc
 
@@ -96,16 +97,13 @@ next_loops S s before t rest l ls at once =
     ∙ by (loops_of S s (t ∷ before) rest)
   where
     by : (x : Outcome (List Loop)) → and_then (and_then x (λ more. Ok (l ∷ more))) (λ more. Ok (ls ++ more)) ≡ and_then x (λ more. Ok ((ls ++ l ∷ []) ++ more))
-    by (Ok more) = ap Ok (sym (append_assoc {a = ls} {b = l ∷ []} {c = more}))
+    by (Ok more) = ap Ok (sym (append_assoc ls (l ∷ []) more))
     by (Err why) = refl
 
 module _ (S : Symbolic) (s : Name) (ts : List Name) (k : ℕ) (t : Name) (d : Name) (here : k < length ts) (t_is : t ≡ get_or ts k d) where
   -- the owners before this one, and this one, are one more
   one_more : reverse (take (k + 1) ts) ≡ t ∷ reverse (take k ts)
-  one_more = ap reverse (take-more ts k here) ∙ reverse-append (take k ts) (get_or ts k d ∷ []) ∙ ap (λ x. x ∷ reverse (take k ts)) (sym t_is)
-    where
-      take-more : (xs : List Name) (i : ℕ) → i < length xs → take (i + 1) xs ≡ take i xs ++ get_or xs i d ∷ []
-      take-more xs i h = rw add-one (take-suc xs i d h)
+  one_more = ap reverse (take_more ts k d here) ∙ reverse-append (take k ts) (get_or ts k d ∷ []) ∙ ap (λ x. x ∷ reverse (take k ts)) (sym t_is)
 
   among_before : (b : Bool) → b ≡ is_among (take k ts) t → is_among (reverse (take k ts)) t ≡ b
   among_before b e = any_reverse (same_name t) (take k ts) ∙ sym e
@@ -118,8 +116,8 @@ module _ (S : Symbolic) (s : Name) (ts : List Name) (k : ℕ) (t : Name) (d : Na
     g.0 ++ at.0 ∷ [],
     next ∙ (λ i. g.1 i ++ at.2 i ∷ []) ∙ sym (map-append (λ l. l.body) g.0 (at.0 ∷ [])),
     g.2 ∙ ap (λ (x : Outcome (List Loop)). and_then x (λ more. Ok (g.0 ++ more))) (at_next (reverse (take k ts)))
-    ∙ next_loops S s (reverse (take k ts)) t (drop (k + 1) ts) at.0 g.0 at.1 (among_before false once)
-    ∙ ap (λ (b : List Name). and_then (loops_of S s b (drop (k + 1) ts)) (λ more. Ok ((g.0 ++ at.0 ∷ []) ++ more))) (sym one_more),
+        ∙ next_loops S s (reverse (take k ts)) t (drop (k + 1) ts) at.0 g.0 at.1 (among_before false once)
+        ∙ ap (λ (b : List Name). and_then (loops_of S s b (drop (k + 1) ts)) (λ more. Ok ((g.0 ++ at.0 ∷ []) ++ more))) (sym one_more),
   )
 
   pub fails_here : (bodies : List Code) (why : Why) → Loops S s ts k bodies → loop_at S s t ≡ Err why → loops_of S s [] ts ≡ Err why
@@ -145,6 +143,10 @@ bodies_at [] [] threads = refl
 bodies_at [] (l ∷ ls) threads = refl
 bodies_at (t ∷ ts) [] threads = refl
 bodies_at (t ∷ ts) (l ∷ ls) threads = bodies_at ts ls (with_code t l.body threads)
+
+pub none_at : (ts : List Name) (threads : List Thread) → at_codes ts [] threads ≡ threads
+none_at [] threads = refl
+none_at (t ∷ ts) threads = refl
 
 -- a set that can be brought into focus
 can_focus_ok : {A : Type 0} (m : Option Mode) (x : Outcome A) → None ≡ focus_fault m → can_focus m x ≡ x

@@ -1,5 +1,5 @@
 -- What the calls of a walk do, from what they call.
-use Rattle.std.proofs.Common.{◌≡◌, ℕ, ◌+◌, true, List, [], ◌∷◌, ◌++◌, Option, Some, refl, sym, ap, ◌∙◌, subst, inl, inr}
+use Rattle.std.proofs.Common.{◌≡◌, ℕ, ◌+◌, List, [], ◌∷◌, ◌++◌, Option, Some, refl, sym, ap, ◌∙◌, subst, inl, inr}
 use Rattle.std.specs.Prelude.{Result, Ok, Err, None, map, option_map}
 use Rattle.std.proofs.lemmas.Option.{same_Some}
 use Rattle.brisk_seq.specs.declared.tree.Seq.{Seq}
@@ -67,14 +67,14 @@ basic_ran w now b r q S X a k same is quiet e items applied counted =
 -- a basic rule that fails by its own test
 own_fails : (w : Walked) (b : BasicStep) (why : RuleFault) → apply w.state (rule_of b) ≡ Err why → Fails (basic w b) (told_by w.counted why)
 own_fails w b why e = elim why as (λ z. apply w.state (rule_of b) ≡ Err z → Fails (basic w b) (told_by w.counted z)) [
-      | basic_fault.NoMemory ↦ λ f. tt
-      | basic_fault.NoThread ↦ λ f. (w.counted + 2, call basic_fault.NoThread f, refl)
-      | basic_fault.WrongHead ↦ λ f. (w.counted + 2, call basic_fault.WrongHead f, refl)
-      | basic_fault.BoxInUse ↦ λ f. (w.counted + 2, call basic_fault.BoxInUse f, refl)
-      | basic_fault.AlreadyPending ↦ λ f. (w.counted + 2, call basic_fault.AlreadyPending f, refl)
-      | basic_fault.NothingPending ↦ λ f. (w.counted + 2, call basic_fault.NothingPending f, refl)
-      | basic_fault.NotKnown ↦ λ f. (w.counted + 2, call basic_fault.NotKnown f, refl)
-    ] e
+  | basic_fault.NoMemory ↦ λ f. tt
+  | basic_fault.NoThread ↦ λ f. (w.counted + 2, call basic_fault.NoThread f, refl)
+  | basic_fault.WrongHead ↦ λ f. (w.counted + 2, call basic_fault.WrongHead f, refl)
+  | basic_fault.BoxInUse ↦ λ f. (w.counted + 2, call basic_fault.BoxInUse f, refl)
+  | basic_fault.AlreadyPending ↦ λ f. (w.counted + 2, call basic_fault.AlreadyPending f, refl)
+  | basic_fault.NothingPending ↦ λ f. (w.counted + 2, call basic_fault.NothingPending f, refl)
+  | basic_fault.NotKnown ↦ λ f. (w.counted + 2, call basic_fault.NotKnown f, refl)
+] e
   where
     call : (why : RuleFault) → apply w.state (rule_of b) ≡ Err why → basic w b ≡ Err record { line = line w; why = Rule why }
     call why e = ap (λ (x : Result Applied RuleFault). ran w (and_then (told_as Rule x) (fault_or (loosely w b)))) e

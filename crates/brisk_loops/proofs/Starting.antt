@@ -10,7 +10,7 @@ use Rattle.brisk_basic.specs.Outcomes.{and_then}
 use Rattle.brisk_rules.specs.Rules.{Outcome, Entered, Parted, enter_branch, enter_while, enter_for, enter_repeat, enter_gather, enter_pick}
 use Rattle.brisk_loops.specs.CloseSeen.{drops_in}
 use Rattle.brisk_loops.specs.LeaveSeen.{StartsLike}
-use Rattle.brisk_loops.specs.Walk.{Inside, Premise, First, entry}
+use Rattle.brisk_loops.specs.Walk.{Premise, First, entry}
 use Rattle.brisk_loops.proofs.Leaving.{premise_of, while_like, repeat_like, gather_like, pick_like}
 use Rattle.brisk_loops.proofs.Owners.{for_like}
 

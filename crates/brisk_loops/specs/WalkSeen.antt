@@ -5,6 +5,7 @@ use Rattle.brisk_state.specs.Symbolic.{Symbolic}
 use Rattle.brisk_basic.specs.declared.rule.RuleFault.{RuleFault}
 use Rattle.brisk_basic.specs.declared.rule.RuleFault.TheVariants as basic_fault
 use Rattle.brisk_derivation.specs.Seen.{step_of}
+use Rattle.brisk_rules.specs.declared.why.Why.{Why}
 use Rattle.brisk_rules.specs.declared.why.Why.TheVariants.{Rule as of_rule, Side as of_side}
 use Rattle.brisk_derivation.specs.declared.fault.SideFault.{SideFault}
 use Rattle.brisk_loops.specs.declared.fault.AcceptFault.{AcceptFault}
@@ -70,6 +71,11 @@ told_by counted why = Bad (kept (counted + 2)) (of_rule why)
 abbrev pub told_first_by : ℕ → Option RuleFault → SideFault → AcceptFault
 told_first_by counted (Some why) fault = told_by counted why
 told_first_by counted None fault = Bad (kept (counted + 2)) (of_side fault)
+
+-- what fails, if something does
+abbrev pub fault_by : {A : Type 0} → Outcome A → Option Why
+fault_by (Ok a) = None
+fault_by (Err why) = Some why
 
 -- a call that tells of this failure, at the line that is told; or there is no memory
 abbrev pub Tells : {A : Type 0} → Result A Failure → AcceptFault → Type 0

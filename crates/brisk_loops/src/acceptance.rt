@@ -9,8 +9,8 @@ ghost use Rattle.brisk_loops.specs.WalkSeen.{Fails, Tells};
 
 use crate::fault::AcceptFault;
 use crate::walk::Walk;
-use brisk_rules::Why;
 use brisk_derivation::{SideFault, Step, Steps};
+use brisk_rules::Why;
 use brisk_seq::SeqProgram;
 use brisk_syntax::Program;
 use std::alloc::Global;

@@ -13,10 +13,10 @@ ghost use Rattle.brisk_rules.specs.Rules.{after_close, close as close_of, first_
 use crate::enter::drop_facts;
 use crate::fault::Refusal;
 use crate::rest::{has_code, same_codes};
-use brisk_rules::Why;
 use brisk_derivation::{SideFault, Step};
 use brisk_facts::Facts;
 use brisk_quiet::{Stillness, quiet};
+use brisk_rules::Why;
 use brisk_state::{State, Thread};
 use brisk_syntax::{Code, Expr};
 use brisk_values::{Name, NoMemory};
@@ -99,12 +99,7 @@ pub(crate) fn is_owner(owners: &[Owner], name: Name) -> bool
 }
 
 // The first thread at which the close looks whose code isn't that of before.
-fn not_restored(
-    kind: &Loop,
-    owners: &[Owner],
-    before: &State,
-    end: &State,
-) -> Option<SideFault>
+fn not_restored(kind: &Loop, owners: &[Owner], before: &State, end: &State) -> Option<SideFault>
     ensures { result ≡ not_restored_in (is_looked_at (kind_of kind.now) owners.now) before.now.threads end.now.threads }
 {
     let mut starts = before.threads();
@@ -278,12 +273,7 @@ pub(crate) fn facts_after(
 }
 
 // The first owner that has code left, or the first other thread that doesn't stand where it stood.
-fn first_open(
-    kind: &Loop,
-    owners: &[Owner],
-    before: &State,
-    end: &State,
-) -> Option<SideFault>
+fn first_open(kind: &Loop, owners: &[Owner], before: &State, end: &State) -> Option<SideFault>
     ensures { result ≡ either_fault (first_fault (map (unfinished_in end.now) owners.now)) (not_restored_in (is_looked_at (kind_of kind.now) owners.now) before.now.threads end.now.threads) }
 {
     if let Some(fault) = unfinished(end, owners) {

@@ -79,9 +79,7 @@ fn copy_item(alloc: Global, item: &Seq) -> Result<Seq, NoMemory>
             copy_body(alloc, first)?,
             copy_body(alloc, second)?,
         ),
-        Seq::While(t, e, body) => {
-            Seq::While(*t, copy_expr(alloc, e)?, copy_body(alloc, body)?)
-        }
+        Seq::While(t, e, body) => { Seq::While(*t, copy_expr(alloc, e)?, copy_body(alloc, body)?) }
         Seq::For(s, body) => Seq::For(*s, copy_body(alloc, body)?),
         Seq::ForAny(s, body) => Seq::ForAny(*s, copy_body(alloc, body)?),
         Seq::Pick(s, body) => Seq::Pick(*s, copy_body(alloc, body)?),

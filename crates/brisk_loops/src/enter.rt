@@ -1,5 +1,5 @@
 //! How a rule is entered: the start of its premise.
-ghost use Rattle.std.specs.Prelude.{◌≡◌, ◌+◌, [], IfOk, IfErr, OnOk};
+ghost use Rattle.std.specs.Prelude.{◌≡◌, ◌+◌, [], ◌∷◌, ◌++◌, IfOk, IfErr, OnOk};
 ghost use Rattle.brisk_syntax.specs.Substitution.{code_with};
 ghost use Rattle.brisk_syntax.specs.Typing.{is_among as is_among_names};
 ghost use Rattle.brisk_syntax.specs.declared.tree.Who.TheVariants.{At as focus_of};
@@ -20,10 +20,10 @@ ghost use Rattle.brisk_syntax.specs.declared.program.Program.{Program};
 use crate::fault::{AcceptFault, Refusal};
 use crate::heads::{any_at, for_at, fork_at, gather_at, repeat_at, while_at};
 use crate::rule::{Rule, Side};
-use brisk_rules::Why;
 use brisk_basic::{RuleFault, active, decided, put_code};
 use brisk_derivation::{Drops, SideFault, Step, Steps};
 use brisk_facts::Facts;
+use brisk_rules::Why;
 use brisk_state::{Mode, State};
 use brisk_syntax::{AnyRecv, Block, Code, Names, Program, Stmt, Who, copy_names, subst};
 use brisk_values::{Name, NoMemory};
@@ -85,12 +85,7 @@ pub(crate) fn told_first(counted: u64, own: Option<RuleFault>, fault: SideFault)
 }
 
 // The start of what the step enters.
-fn entered(
-    alloc: Global,
-    program: &Program,
-    state: &State,
-    step: &Step,
-) -> Result<State, Refusal>
+fn entered(alloc: Global, program: &Program, state: &State, step: &Step) -> Result<State, Refusal>
     ensures ok { IfOk result (λ s. StartsIn (entry program.now state.now (step_of step.now)) s) }
     ensures cause { IfErr result (λ f. Refuses (entry program.now state.now (step_of step.now)) f) }
 {
@@ -287,12 +282,7 @@ fn no_focus(state: &State, set: Name) -> Option<Why>
 }
 
 // The bodies of the loops over the set at which the owners stand, with the member in focus for the binder.
-fn bodies(
-    alloc: Global,
-    state: &State,
-    set: Name,
-    owners: &[Name],
-) -> Result<Vec<Code>, Refusal>
+fn bodies(alloc: Global, state: &State, set: Name, owners: &[Name]) -> Result<Vec<Code>, Refusal>
     ensures ok { IfOk result (λ b. AreBodies (loops_of state.now set [] owners.now) b.items) }
     ensures cause { IfErr result (λ f. Refuses (loops_of state.now set [] owners.now) f) }
 {
@@ -305,11 +295,16 @@ fn bodies(
         if is_among(&owners[..place], *owner) {
             return Err(Refusal::Because(Why::Rule(RuleFault::WrongHead)));
         }
-        if bodies.push(body).is_err() {
-            return Err(Refusal::NoMemory);
-        }
+        add_code(&mut bodies, body)?;
     }
     Ok(bodies)
+}
+
+fn add_code(codes: &mut Vec<Code>, code: Code) -> Result<(), NoMemory>
+    ensures { OnOk result (codes.new.items ≡ codes.old.items ++ code ∷ []) }
+{
+    codes.push(code)?;
+    Ok(())
 }
 
 // Whether the name is one of these.

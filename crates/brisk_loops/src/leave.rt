@@ -123,7 +123,7 @@ fn closing_pick(alloc: Global, before: &State, owner: Name) -> Result<Option<Clo
     Ok(Some(closing))
 }
 
-// A `for`.
+// A `for`. Its owners stand at loops over the set, since it was entered.
 fn closing_for(
     alloc: Global,
     before: &State,
@@ -132,49 +132,34 @@ fn closing_for(
 ) -> Result<Option<Closing>, NoMemory>
     ensures { (drops : List Fact) (r : Entered) → enter_for before.now set owners.now drops ≡ okay r → IfOk result (λ k. IfSome k (λ k. Closes k r)) }
 {
-    let Some(owners) = rests(alloc, before, set, &owners.items)? else {
-        return Ok(None);
-    };
+    let owners = rests(alloc, before, set, &owners.items)?;
     let kind = Loop::For(set);
     Ok(Some(Closing { owners, kind }))
 }
 
 // The owners of a `for` over the set, each with the code behind its loop.
-fn rests(
-    alloc: Global,
-    before: &State,
-    set: Name,
-    owners: &[Name],
-) -> Result<Option<Vec<Owner>>, NoMemory>
-    ensures { IfOk result (λ o. IfSome o (λ os. os.items ≡ map (owner_by before.now) owners.now)) }
+fn rests(alloc: Global, before: &State, set: Name, owners: &[Name]) -> Result<Vec<Owner>, NoMemory>
+    ensures { IfOk result (λ os. os.items ≡ map (owner_by before.now) owners.now) }
 {
     let mut rests = Vec::new(alloc);
     for owner in owners {
-        let Some(rest) = rest_behind(alloc, before, set, *owner)? else {
-            return Ok(None);
-        };
-        rests.push(rest)?;
+        rests.push(rest_behind(alloc, before, set, *owner)?)?;
     }
-    Ok(Some(rests))
+    Ok(rests)
 }
 
-fn rest_behind(
-    alloc: Global,
-    before: &State,
-    set: Name,
-    owner: Name,
-) -> Result<Option<Owner>, NoMemory>
-    ensures { IfOk result (λ o. IfSome o (λ o. o ≡ owner_by before.now owner)) }
+fn rest_behind(alloc: Global, before: &State, set: Name, owner: Name) -> Result<Owner, NoMemory>
+    ensures { IfOk result (λ o. o ≡ owner_by before.now owner) }
 {
     let Some(code) = active(before, owner) else {
-        return Ok(None);
+        return Err(NoMemory);
     };
     let Some(_) = for_at(code, set) else {
-        return Ok(None);
+        return Err(NoMemory);
     };
     let mut rest = copy_code(alloc, code)?;
     rest.skip();
-    Ok(Some(Owner { name: owner, rest }))
+    Ok(Owner { name: owner, rest })
 }
 
 /// The rule with one premise that the step entered in the state before; none for another step.
@@ -262,21 +247,15 @@ pub(crate) fn ending(alloc: Global, rule: &Rule, end: &State) -> Result<Option<E
 {
     match &rule.step {
         Step::Branch(owner, _, _) => ends_branch(alloc, rule, *owner, end),
-        _ => {
-            let closed = ends_loop(alloc, rule, end)?;
-            Ok(Some(Ended::Closes(closed)))
-        }
+        _ => match ends_loop(alloc, rule, end) {
+            Ok(closed) => Ok(Some(Ended::Closes(closed))),
+            Err(why) => Err(why),
+        },
     }
 }
 
 /// The end becomes the state after the rule, whose item this is. Takes no memory.
-pub(crate) fn left(
-    alloc: Global,
-    ended: Ended,
-    side: Side,
-    body: Body,
-    end: &mut State,
-) -> Seq
+pub(crate) fn left(alloc: Global, ended: Ended, side: Side, body: Body, end: &mut State) -> Seq
     ensures state { end.new ≡ state_after ended side end.old }
     ensures item { item_of result ≡ item_after ended side body }
 {
@@ -295,14 +274,7 @@ fn close_with(closed: Closed, body: Body, end: &mut State) -> Seq
     around(kind, body)
 }
 
-fn join(
-    alloc: Global,
-    owner: Name,
-    guard: Expr,
-    side: Side,
-    body: Body,
-    end: &mut State,
-) -> Seq
+fn join(alloc: Global, owner: Name, guard: Expr, side: Side, body: Body, end: &mut State) -> Seq
     ensures state { end.new ≡ joined_state side end.old }
     ensures item { item_of result ≡ joined_item owner (expression_of guard) side body }
 {

@@ -1,11 +1,11 @@
 //! What follows a thread's code in the rules that are entered, and what basic rules ask of senders on loose channels.
-ghost use Rattle.std.specs.Prelude.{◌≡◌, IfOk, None};
+ghost use Rattle.std.specs.Prelude.{◌≡◌, IfOk, None, OnOk, reverse};
 ghost use Rattle.brisk_derivation.specs.Seen.{step_of};
 ghost use Rattle.brisk_rules.specs.Following.{behind_head, loose_fault as loose_fault_of, piece_of, quiet_from as quiet_from_code};
 ghost use Rattle.brisk_rules.specs.Rules.{code_in};
 ghost use Rattle.brisk_state.specs.Symbolic.{thread_named};
 ghost use Rattle.brisk_loops.specs.CloseSeen.{kind_of};
-ghost use Rattle.brisk_loops.specs.PiecesSeen.{in_rule};
+ghost use Rattle.brisk_loops.specs.PiecesSeen.{before, in_rule};
 ghost use Rattle.brisk_loops.specs.Walk.{entry, follows};
 ghost use Rattle.brisk_loops.specs.WalkSeen.{AreEntered, IsEntered, inside_of, opened_by};
 ghost use Rattle.brisk_syntax.specs.declared.program.Program.{Program as Text};
@@ -41,14 +41,16 @@ pub(crate) fn loose_fault(
                 return Ok(Some(SideFault::ManyPending));
             }
             let code = copy_of(alloc, state, *from)?;
-            quiet_from(alloc, rules, state, &code, *from, *to, *channel)
+            let fault = quiet_from(alloc, rules, state, &code, *from, *to, *channel)?;
+            Ok(fault)
         }
         Basic::Pass(from, to, channel) => {
             if !program.channels.is_loose(channel) {
                 return Ok(None);
             }
             let code = code_behind(alloc, state, *from)?;
-            quiet_from(alloc, rules, state, &code, *from, *to, *channel)
+            let fault = quiet_from(alloc, rules, state, &code, *from, *to, *channel)?;
+            Ok(fault)
         }
         _ => Ok(None),
     }
@@ -100,12 +102,24 @@ fn pieces(alloc: Global, rules: &[Rule], name: Name) -> Result<Vec<Piece>, NoMem
 {
     let mut pieces = Vec::new(alloc);
     for rule in rules {
-        if let Some(piece) = piece(alloc, rule, name)? {
-            pieces.push(piece)?;
-        }
+        let piece = piece(alloc, rule, name)?;
+        add(&mut pieces, piece)?;
     }
     pieces.reverse();
     Ok(pieces)
+}
+
+// Puts the piece, if there is one, last.
+fn add(pieces: &mut Vec<Piece>, piece: Option<Piece>) -> Result<(), NoMemory>
+    ensures { OnOk result (reverse pieces.new.items ≡ before piece (reverse pieces.old.items)) }
+{
+    match piece {
+        None => Ok(()),
+        Some(piece) => {
+            pieces.push(piece)?;
+            Ok(())
+        }
+    }
 }
 
 // The piece that a rule puts before what follows a thread, if it puts one.

@@ -4,9 +4,9 @@ ghost use Rattle.brisk_seq.specs.Items.{◌followed_by◌};
 ghost use Rattle.brisk_seq.specs.Seen.{item_of, items_of};
 ghost use Rattle.brisk_syntax.specs.WellTyped.{IsProgramWellTyped};
 ghost use Rattle.brisk_derivation.specs.Seen.{step_of};
-ghost use Rattle.brisk_loops.specs.Walk.{back as given_up, basic as applied_by, enter as entered_by, finish as finished_by, leave as left_by, other as other_of, rewind as rewound, start};
-ghost use Rattle.brisk_rules.specs.Derives.{first_unfinished as unfinished_in, items_in, rule_of as rule_by};
-ghost use Rattle.brisk_loops.specs.WalkSeen.{Fails, Gives};
+ghost use Rattle.brisk_loops.specs.Walk.{back as given_up, basic as applied_by, enter as entered_by, finish as finished_by, follows, leave as left_by, other as other_of, rewind as rewound, start};
+ghost use Rattle.brisk_rules.specs.Derives.{apply_quietly, first_unfinished as unfinished_in, items_in, rule_of as rule_by};
+ghost use Rattle.brisk_loops.specs.WalkSeen.{Fails, Gives, fault_by};
 ghost use Rattle.brisk_loops.specs.declared.rule.Side.TheVariants.{Second as second};
 
 use crate::copies::{copy_body, declared};
@@ -16,9 +16,9 @@ use crate::leave::{ending, left};
 use crate::pieces::loose_fault;
 use crate::rest::has_code;
 use crate::rule::{Rule, Side};
-use brisk_rules::Why;
 use brisk_basic::{Basic, apply, refusal};
 use brisk_derivation::{BasicStep, SideFault, Step};
+use brisk_rules::Why;
 use brisk_seq::{Body, Seq, SeqProgram};
 use brisk_state::{State, Thread};
 use brisk_syntax::{Program, copy_program};
@@ -107,7 +107,12 @@ impl Walk {
     /// The state at the end of the first side, in the second side of a branch.
     pub fn first_end(&self) -> Option<&State> {
         match self.rules.last() {
-            Some(Rule { side: Side::Second(state, _), .. }) => Some(state),
+            Some(
+                Rule {
+                    side: Side::Second(state, _),
+                    ..
+                },
+            ) => Some(state),
             _ => None,
         }
     }
@@ -152,23 +157,41 @@ impl Walk {
         ensures err { OnErr result (self.new ≡ self.old) }
         ensures cause { IfErr result (λ f. Fails (applied_by self.old step.now) f) }
     {
-        if self.items.items.reserve(1).is_err() {
-            return Err(AcceptFault::NoMemory);
-        }
         let rule = rule_of(step);
-        let fault = loose_fault(self.alloc, &self.program, &self.rules, &self.state, &rule)?;
-        if let Some(fault) = fault {
-            let own = refusal(&self.state, &rule);
-            return Err(told_first(self.counted, own, fault));
-        }
-        match apply(self.alloc, &mut self.state, &rule) {
-            Err(why) => Err(told(self.counted, why)),
-            Ok(statement) => {
-                add(&mut self.items.items, statement);
-                self.applied = self.applied.saturating_add(1);
-                self.counted = self.counted.saturating_add(1);
-                Ok(())
+        match loose_fault(self.alloc, &self.program, &self.rules, &self.state, &rule)? {
+            Some(fault) => {
+                let own = refusal(&self.state, &rule);
+                Err(told_first(self.counted, own, fault))
             }
+            None => {
+                if self.items.items.reserve(1).is_err() {
+                    return Err(AcceptFault::NoMemory);
+                }
+                match apply(self.alloc, &mut self.state, &rule) {
+                    Err(why) => Err(told(self.counted, why)),
+                    Ok(statement) => {
+                        add(&mut self.items.items, statement);
+                        self.applied = self.applied.saturating_add(1);
+                        self.counted = self.counted.saturating_add(1);
+                        Ok(())
+                    }
+                }
+            }
+        }
+    }
+
+    /// Why a basic rule doesn't apply: its own test that fails first, or else that for loose channels; none where it
+    /// applies. It copies no state.
+    pub fn refusal(&self, step: &BasicStep) -> Result<Option<Why>, NoMemory>
+        ensures { IfOk result (λ o. o ≡ fault_by (apply_quietly self.now.program (follows self.now.entered) self.now.state (rule_by step.now))) }
+    {
+        let rule = rule_of(step);
+        if let Some(why) = refusal(&self.state, &rule) {
+            return Ok(Some(Why::Rule(why)));
+        }
+        match loose_fault(self.alloc, &self.program, &self.rules, &self.state, &rule)? {
+            None => Ok(None),
+            Some(fault) => Ok(Some(Why::Side(fault))),
         }
     }
 
@@ -248,11 +271,6 @@ impl Walk {
         let Some(rule) = self.rules.pop() else {
             return Ok(());
         };
-        let mut rule = rule;
-        if rule.items.items.reserve(1).is_err() {
-            self.rules.push_reserved(rule);
-            return Err(AcceptFault::NoMemory);
-        }
         match ending(self.alloc, &rule, &self.state) {
             Err(why) => {
                 self.rules.push_reserved(rule);
@@ -263,6 +281,11 @@ impl Walk {
                 Ok(())
             }
             Ok(Some(ended)) => {
+                let mut rule = rule;
+                if rule.items.items.reserve(1).is_err() {
+                    self.rules.push_reserved(rule);
+                    return Err(AcceptFault::NoMemory);
+                }
                 let none = Body {
                     items: Vec::new(self.alloc),
                 };

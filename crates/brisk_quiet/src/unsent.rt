@@ -4,9 +4,7 @@ ghost use Rattle.brisk_syntax.specs.Statements.{statement_of, code_of};
 ghost use Rattle.brisk_quiet.specs.Sender.{is_binder as is_binder_of, unsent as unsent_in};
 ghost use Rattle.brisk_quiet.specs.Unsent.{is_sent_to as is_sent_in, statement_unsent, unsent_under as unsent_beneath};
 
-use brisk_syntax::{
-    AnyRecv, Block, Loop, Stmt, Turns, Who, copy_expr, copy_exprs, copy_names,
-};
+use brisk_syntax::{AnyRecv, Block, Loop, Stmt, Turns, Who, copy_expr, copy_exprs, copy_names};
 use brisk_values::{Name, NoMemory};
 use std::alloc::Global;
 use std::rc::Rc;

@@ -11,10 +11,10 @@ use crate::drive::{Drive, meets};
 use crate::failing::{fails, is_refused};
 use crate::limits::Limits;
 use crate::loss::lost_with;
-use crate::standing::{Head, holds};
+use crate::standing::Head;
 use crate::turn::{Came, Failed, Left, Turn};
 use brisk_derivation::{BasicStep, SideFault, Step, Steps, TryEnd};
-use brisk_loops::{AcceptFault, Walk, Why, rule_of};
+use brisk_loops::{AcceptFault, Walk, Why};
 use brisk_values::{Name, NoMemory};
 
 /// Enters a rule; or tells why it can't be entered.
@@ -57,10 +57,10 @@ fn basically(limits: &Limits, walk: &mut Walk, step: BasicStep) -> Result<Turn, 
     ensures { IfOk result (λ t. Turned t walk.old walk.new) }
 {
     if limits.is_spent(walk) {
-        if holds(limits.alloc, walk.state(), &rule_of(&step))? {
-            return Ok(Turn::Spent);
-        }
-        return Ok(Turn::Stays);
+        return match walk.refusal(&step)? {
+            None => Ok(Turn::Spent),
+            Some(_) => Ok(Turn::Stays),
+        };
     }
     match walk.basic(&step) {
         Ok(()) => Ok(Turn::Goes(Step::Basic(step))),

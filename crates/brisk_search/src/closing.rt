@@ -3,7 +3,7 @@ use crate::standing::has_code;
 use brisk_derivation::{Drops, SideFault};
 use brisk_loops::Walk;
 use brisk_quiet::{Stillness, quiet};
-use brisk_state::{Pending, State, Thread};
+use brisk_state::{State, Thread};
 use brisk_syntax::same_code;
 use brisk_values::{Name, NoMemory};
 use std::alloc::Global;
@@ -33,15 +33,6 @@ impl Scope {
             Scope::Everything => true,
             Scope::Outside(set) => *set != role,
             Scope::Inside(set) => *set == role,
-        }
-    }
-
-    // The close looks at messages under the same key as this one.
-    fn looks_at_message(&self, message: &Pending) -> bool {
-        match self {
-            Scope::Everything => true,
-            Scope::Outside(set) => *set != message.from && *set != message.to,
-            Scope::Inside(set) => *set == message.from || *set == message.to,
         }
     }
 }
@@ -94,7 +85,7 @@ pub(crate) fn fault_aside(
     if let Some(name) = not_restored(premise, before, state) {
         return Ok(Some(SideFault::NotRestored(name)));
     }
-    if !has_same_mail(alloc, premise, before, state)? {
+    if !has_same_mail(premise, before, state)? {
         return Ok(Some(SideFault::MailChanged));
     }
     match (
@@ -120,26 +111,12 @@ fn not_restored(premise: &Premise, before: &State, state: &State) -> Option<Name
 }
 
 // The same messages pend, where the close looks at them.
-fn has_same_mail(
-    alloc: Global,
-    premise: &Premise,
-    before: &State,
-    state: &State,
-) -> Result<bool, NoMemory> {
-    let was = seen_of(alloc, premise.scope, before)?;
-    let is = seen_of(alloc, premise.scope, state)?;
-    Ok(was == is)
-}
-
-// The messages at which the close looks.
-fn seen_of(alloc: Global, scope: Scope, state: &State) -> Result<Vec<Pending>, NoMemory> {
-    let mut seen = Vec::new(alloc);
-    for message in &state.pending()? {
-        if scope.looks_at_message(message) {
-            seen.push(*message)?;
-        }
+fn has_same_mail(premise: &Premise, before: &State, state: &State) -> Result<bool, NoMemory> {
+    match premise.scope {
+        Scope::Everything => Ok(before.same_mail(state)),
+        Scope::Outside(set) => before.same_mail_without(state, set),
+        Scope::Inside(set) => before.same_mail_with(state, set),
     }
-    Ok(seen)
 }
 
 // What the close of a gather asks of the member in focus.

@@ -78,7 +78,7 @@ fn acts(
 ) -> Result<Turn, NoMemory>
     ensures { IfOk result (λ t. Turned t walk.old walk.new) }
 {
-    let (name, head) = asks(limits.alloc, walk.state(), comer)?;
+    let (name, head) = asks(limits.alloc, walk, comer)?;
     let forks = head.is_if();
     match at_first(limits, walk, name, &head)? {
         Turn::Stays if forks => branch(limits, walk, asked, name, room, failures),

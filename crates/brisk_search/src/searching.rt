@@ -1,6 +1,5 @@
 //! The search for a derivation, in two passes.
-ghost use Rattle.std.specs.Prelude.{◌≡◌, true, IfOk, Ok as okay};
-ghost use Rattle.brisk_syntax.specs.Classes.{has_no_loose};
+ghost use Rattle.std.specs.Prelude.{◌≡◌, IfOk, Ok as okay};
 ghost use Rattle.brisk_syntax.specs.WellTyped.{IsProgramWellTyped};
 ghost use Rattle.brisk_loops.specs.Walk.{finish as finished_by, start};
 ghost use Rattle.brisk_search.specs.Led.{Alike};
@@ -14,7 +13,7 @@ use crate::turn::Driven;
 use brisk_derivation::Report;
 use brisk_loops::Walk;
 use brisk_seq::SeqProgram;
-use brisk_syntax::Program;
+use brisk_syntax::{Program, is_star, is_straight};
 use brisk_values::NoMemory;
 use std::alloc::Global;
 
@@ -22,11 +21,12 @@ use std::alloc::Global;
 const DEEPEST: u16 = 256;
 
 /// The search, with so many rules to apply. Straight programs and stars have no budget, and one pass.
-pub fn search(alloc: Global, program: Program, budget: Option<u64>) -> Result<Outcome, NoMemory>
-    requires typed { IsProgramWellTyped program }
-    requires strict { has_no_loose program ≡ true }
-    ensures { IfOk result (λ o. IsSound program o) }
+pub fn search(alloc: Global, program: &Program, budget: u64) -> Result<Outcome, NoMemory>
+    requires { IsProgramWellTyped program.now }
+    ensures { IfOk result (λ o. IsSound program.now o) }
 {
+    let is_simple = is_straight(program) || is_star(program);
+    let budget = if is_simple { None } else { Some(budget) };
     let mut walk = Walk::start(alloc, program)?;
     let limits = Limits {
         alloc,

@@ -6,7 +6,9 @@ ghost use Rattle.brisk_syntax.specs.Statements.{statement_of};
 ghost use Rattle.brisk_rules.specs.Standing.{has_code, stands_at};
 
 use crate::drive::Comer;
-use brisk_basic::{Basic, RuleFault, active, apply};
+use brisk_basic::active;
+use brisk_derivation::{BasicStep, SideFault};
+use brisk_loops::Walk;
 use brisk_state::{Mode, State, Thread};
 use brisk_syntax::{Code, Stmt, Who, copy_code};
 use brisk_values::{Name, NoMemory, Value};
@@ -54,12 +56,12 @@ fn thread_of(who: &Who) -> Name {
 }
 
 /// Who acts where this one comes in turn, and what its code asks for first.
-pub(crate) fn asks(alloc: Global, state: &State, comer: &Comer) -> Result<(Name, Head), NoMemory> {
+pub(crate) fn asks(alloc: Global, walk: &Walk, comer: &Comer) -> Result<(Name, Head), NoMemory> {
     match comer {
         Comer::Set(set) => Ok((*set, Head::Alone)),
-        Comer::Thread(name) => match actor(alloc, state, *name)? {
+        Comer::Thread(name) => match actor(alloc, walk, *name)? {
             None => Ok((*name, Head::Done)),
-            Some(thread) => Ok((thread, head_of(state, thread))),
+            Some(thread) => Ok((thread, head_of(walk.state(), thread))),
         },
     }
 }
@@ -153,18 +155,18 @@ fn is_for(code: &Code, set: Name) -> bool {
 
 // Who acts in the turn of a thread: the thread, or who acts for the one that it waits for; none, where threads wait for
 // each other, or where there is no code.
-fn actor(alloc: Global, state: &State, name: Name) -> Result<Option<Name>, NoMemory> {
+fn actor(alloc: Global, walk: &Walk, name: Name) -> Result<Option<Name>, NoMemory> {
     let mut waiting: Vec<Name> = Vec::new(alloc);
     let mut thread = name;
-    for _ in 0..state.threads().len() {
-        let Some(code) = active(state, thread) else {
+    for _ in 0..walk.state().threads().len() {
+        let Some(code) = active(walk.state(), thread) else {
             return Ok(None);
         };
         if code.first().is_none() {
             return Ok(None);
         }
         waiting.push(thread)?;
-        match waits_for(alloc, state, thread)? {
+        match waits_for(walk, thread)? {
             None => return Ok(Some(thread)),
             Some(sender) if waiting.contains(&sender) => return Ok(None),
             Some(sender) => thread = sender,
@@ -174,23 +176,13 @@ fn actor(alloc: Global, state: &State, name: Name) -> Result<Option<Name>, NoMem
 }
 
 // Whom the thread waits for: the sender, at a receive that can't be taken.
-fn waits_for(alloc: Global, state: &State, name: Name) -> Result<Option<Name>, NoMemory> {
-    let Head::Receive(from, channel) = head_of(state, name) else {
+fn waits_for(walk: &Walk, name: Name) -> Result<Option<Name>, NoMemory> {
+    let _fault: Option<SideFault> = None;
+    let Head::Receive(from, channel) = head_of(walk.state(), name) else {
         return Ok(None);
     };
-    if holds(alloc, state, &Basic::Take(from, name, channel))? {
-        Ok(None)
-    } else {
-        Ok(Some(from))
-    }
-}
-
-/// The tests of a basic rule hold. It is tried on a copy of the state.
-pub(crate) fn holds(alloc: Global, state: &State, rule: &Basic) -> Result<bool, NoMemory> {
-    let mut copy = state.copy()?;
-    match apply(alloc, &mut copy, rule) {
-        Ok(_) => Ok(true),
-        Err(RuleFault::NoMemory) => Err(NoMemory),
-        Err(_) => Ok(false),
+    match walk.refusal(&BasicStep::Take(from, name, channel))? {
+        None => Ok(None),
+        Some(_) => Ok(Some(from)),
     }
 }

@@ -17,13 +17,13 @@ unsent_all-loop-statement-preserved t c =
           ap (λ ys. code_of ys.items then rest) w.items-is
           ∙ ap (λ ys. code_of ys then rest) w.in_ok-push.ensures.items
           ∙ stays v c.loop-statement.items.items w.in_ok-unsent_statement.field-0 ss k c.statement-item.result (omega arith)
-            (ap (λ s. is_sent_to v (statement_of s)) (sym c.statement-item.is) ∙ sym c.is_sent_to.ensures ∙ w.if-not-is_sent_to.true)
-            (w.in_ok-unsent_statement.ensures ∙ ap (λ s. statement_unsent v (statement_of s)) c.statement-item.is)
+          (ap (λ s. is_sent_to v (statement_of s)) (sym c.statement-item.is) ∙ sym c.is_sent_to.ensures ∙ w.if-not-is_sent_to.true)
+          (w.in_ok-unsent_statement.ensures ∙ ap (λ s. statement_unsent v (statement_of s)) c.statement-item.is)
           ∙ c.loop-statement.invariant
       | unsent_all-else-not-is_sent_to w ↦
           ap (λ ys. code_of ys.items then rest) w.items-is
           ∙ left_out v (code_of c.loop-statement.items.items) ss k c.statement-item.result (omega arith)
-            (ap (λ s. is_sent_to v (statement_of s)) (sym c.statement-item.is) ∙ sym c.is_sent_to.ensures ∙ w.if-not-is_sent_to.false)
+          (ap (λ s. is_sent_to v (statement_of s)) (sym c.statement-item.is) ∙ sym c.is_sent_to.ensures ∙ w.if-not-is_sent_to.false)
           ∙ c.loop-statement.invariant
     ]
 

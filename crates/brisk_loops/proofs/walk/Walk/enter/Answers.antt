@@ -28,9 +28,11 @@ returns-clause-ok c =
 pub invariant_of-self-2 : goal.invariant_of-self-2
 invariant_of-self-2 c =
     let r : Rule = record { step = c.in_ok-step.step; side = side.First; state = c.replace-state.result; items = c.replace-items.result; counted = c.self.inside.counted } in
-    let i = c.in_ok-start.ensures.ok in
-    (subst (AreEntered c.self.inside.program) (sym (c.push_reserved.ensures.items ∙ ap (λ xs. xs ++ r ∷ []) c.reserve.ensures.items))
-    (entered_more c.self.inside.program c.self.inside.rules.items r c.self.invariant.0
-    (subst (λ (s : Step). IsEntered (entry c.self.inside.program c.replace-state.result s) side.First) (sym c.in_ok-step.ensures)
-    (subst (λ (S : Symbolic). IsEntered (entry c.self.inside.program S (alone (step_of c.args.step.now))) side.First) (sym c.replace-state.ensures.value)
-    (is_entered c.self.inside.program c.self.inside.state (step_of c.args.step.now) c.len-deep.result i.0 i.1)))), c.self.invariant.1)
+    let i = c.in_ok-start.ensures.ok in (
+      subst (AreEntered c.self.inside.program) (sym (c.push_reserved.ensures.items ∙ ap (λ xs. xs ++ r ∷ []) c.reserve.ensures.items))
+          (entered_more c.self.inside.program c.self.inside.rules.items r c.self.invariant.0
+          (subst (λ (s : Step). IsEntered (entry c.self.inside.program c.replace-state.result s) side.First) (sym c.in_ok-step.ensures)
+          (subst (λ (S : Symbolic). IsEntered (entry c.self.inside.program S (alone (step_of c.args.step.now))) side.First) (sym c.replace-state.ensures.value)
+          (is_entered c.self.inside.program c.self.inside.state (step_of c.args.step.now) c.len-deep.result i.0 i.1)))),
+      c.self.invariant.1,
+    )

@@ -1,4 +1,4 @@
-use Rattle.std.proofs.Common.{sym, subst, ap, ◌∙◌, ◌++◌, ◌∷◌, []}
+use Rattle.std.proofs.Common.{sym, subst, ap, ◌∙◌}
 use Rattle.brisk_seq.specs.Seen.{items_of}
 use Rattle.brisk_loops.specs.declared.rule.Rule.{Rule}
 use Rattle.brisk_loops.specs.declared.rule.Side.TheVariants as side
@@ -20,11 +20,13 @@ returns-in_default-clause-ok c =
 
 pub invariant_of-self-in-Ok-Some : goal.invariant_of-self-in-Ok-Some
 invariant_of-self-in-Ok-Some c =
-    let i = c.self.inside in let r = c.in-Some.rule in
-    (subst (AreEntered i.program) (sym c.push_reserved-in-Ok-Some.ensures.items)
-    (entered_more i.program c.pop.new.self.items c.across.result (entered_fewer i.program c.pop.new.self.items r (subst (AreEntered i.program) c.in-Some.ensures.items c.self.invariant.0))
-    (subst (λ (z : Rule). IsEntered (entry i.program z.state (step_of z.step)) z.side) (sym c.across.ensures)
-    (crossed_is i.program i.state i.items i.rules.items i.applied i.counted c.args.self.now c.self.view_is c.pop.new.self.items r c.in-Some.ensures.items c.in-Ok-Some.second (sym c.in-Ok-Some.field-0-is ∙ c.in-Ok-Some.ensures i.program) c.replace-state.result c.replace-items.result))), c.self.invariant.1)
+    let i = c.self.inside in let r = c.in-Some.rule in (
+      subst (AreEntered i.program) (sym c.push_reserved-in-Ok-Some.ensures.items)
+          (entered_more i.program c.pop.new.self.items c.across.result (entered_fewer i.program c.pop.new.self.items r (subst (AreEntered i.program) c.in-Some.ensures.items c.self.invariant.0))
+          (subst (λ (z : Rule). IsEntered (entry i.program z.state (step_of z.step)) z.side) (sym c.across.ensures)
+          (crossed_is i.program i.state i.items i.rules.items i.applied i.counted c.args.self.now c.self.view_is c.pop.new.self.items r c.in-Some.ensures.items c.in-Ok-Some.second (sym c.in-Ok-Some.field-0-is ∙ c.in-Ok-Some.ensures i.program) c.replace-state.result c.replace-items.result))),
+      c.self.invariant.1,
+    )
 
 pub returns-in-Ok-None-clause-ok : goal.returns-in-Ok-None-clause-ok
 returns-in-Ok-None-clause-ok c =

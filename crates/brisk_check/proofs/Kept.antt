@@ -85,6 +85,7 @@ used_grows b c (Some a) e = by (nat_lt most_nested (length b.entered + steps_dep
   where
     same : {x y : Body} → Some x ≡ Some y → x ≡ y
     same p = cc
+
     by : (t : Bool) → (if t then None else Some (record b { steps = b.steps then a })) ≡ Some c → lines_so_far c ≡ lines_so_far b ++ lines_of a
     by true p = absurd (let w = p in cc)
     by false p = ap lines_so_far (sym (same p)) ∙ ap (λ z. lines_around b.entered ++ z) (lines_then b.steps a) ∙ sym (append_assoc (lines_around b.entered) (lines_of b.steps) (lines_of a))
@@ -101,8 +102,7 @@ end_keeps : (r v : Reading) (t : Bool) → Kept r → (is_none r.part && is_whol
 end_keeps r v false h k e = absurd (no_some e)
 end_keeps r v true h k e =
     let two = both_true (is_none r.part) (is_whole r.body) k in
-    subst (Keeps r End) (the_same e)
-    (
+    subst (Keeps r End) (the_same e) (
       record { unbegun = h.unbegun; outside = h.outside; done = λ d. (two.0, none_entered r.body.entered two.1) },
       no_more (main_calls r) (calls_for r End) (silent r End refl),
     )
@@ -118,8 +118,7 @@ part_keeps : (r v : Reading) (n : Name) (t : Bool) → r.ended ≡ false → Kep
 part_keeps r v n false z h k e = absurd (no_some e)
 part_keeps r v n true z h k e =
     let three = guards (is_none r.part) r.main (is_none (part_named n r.parts)) k in
-    subst (Keeps r (Part n)) (the_same e)
-    (
+    subst (Keeps r (Part n)) (the_same e) (
       record { unbegun = λ m p. refl; outside = λ p. three.1; done = λ d. absurd (no_true (sym z ∙ d)) },
       sym (begun_calls r h three.0 three.1) ∙ no_more (main_calls r) (calls_for r (Part n)) (silent r (Part n) refl),
     )
@@ -138,11 +137,10 @@ endpart_keeps r v (Some n) z h k e = by (is_whole r.body) e
   where
     by : (t : Bool) → (if t then Some (record r { parts = record { name = n; steps = r.body.steps } ∷ r.parts; part = None; body = empty }) else None) ≡ Some v → Keeps r EndPart v
     by false p = absurd (no_some p)
-    by true p = subst (Keeps r EndPart) (the_same p)
-        (
-          record { unbegun = λ m q. refl; outside = λ q. absurd (no_true (sym q)); done = λ d. absurd (no_true (sym z ∙ d)) },
-          sym (in_part r n k) ∙ no_more (main_calls r) (calls_for r EndPart) (silent r EndPart refl),
-        )
+    by true p = subst (Keeps r EndPart) (the_same p) (
+      record { unbegun = λ m q. refl; outside = λ q. absurd (no_true (sym q)); done = λ d. absurd (no_true (sym z ∙ d)) },
+      sym (in_part r n k) ∙ no_more (main_calls r) (calls_for r EndPart) (silent r EndPart refl),
+    )
 
 behind_keeps : (f : Format) (r v : Reading) (l : Line) → r.ended ≡ false → Kept r → behind_head f r l ≡ Some v → Keeps r l v
 behind_keeps Format1 r v End z h e = end_keeps r v (is_none r.part && is_whole r.body) h refl e

@@ -43,17 +43,17 @@ line_length rest bytes end more l cut e k =
 
 -- ---- one line more
 
-read_more : (ls : List Line) (l : Line) (r h v : Reading) → read_all ls r ≡ Ok h → read_line h l ≡ Ok v → read_all (ls ++ l ∷ []) r ≡ Ok v
+pub read_more : (ls : List Line) (l : Line) (r h v : Reading) → read_all ls r ≡ Ok h → read_line h l ≡ Ok v → read_all (ls ++ l ∷ []) r ≡ Ok v
 read_more [] l r h v e p = ap (λ z. and_then (read_line z l) (read_all [])) (same_ok e) ∙ ap (λ z. and_then z (read_all [])) p
 read_more (x ∷ ls) l r h v e p =
     let one = first_read (read_line r x) (read_all ls) h e in
     ap (λ z. and_then z (read_all (ls ++ l ∷ []))) one.1 ∙ read_more ls l one.0 h v one.2 p
 
-legal_more : (ls : List Line) (l : Line) → AllByRecursion IsLegal ls → IsLegal l → AllByRecursion IsLegal (ls ++ l ∷ [])
+pub legal_more : (ls : List Line) (l : Line) → AllByRecursion IsLegal ls → IsLegal l → AllByRecursion IsLegal (ls ++ l ∷ [])
 legal_more [] l h k = (k, tt)
 legal_more (x ∷ ls) l h k = (h.0, legal_more ls l h.1 k)
 
-one_more : (before : List Line) (l : Line) (text more : Text) → text ≡ text_of_lines before ++ (line_text l ++ 10 ∷ more) → text ≡ text_of_lines (before ++ l ∷ []) ++ more
+pub one_more : (before : List Line) (l : Line) (text more : Text) → text ≡ text_of_lines before ++ (line_text l ++ 10 ∷ more) → text ≡ text_of_lines (before ++ l ∷ []) ++ more
 one_more before l text more e =
     e
     ∙ ap (λ z. text_of_lines before ++ z) (sym (append_assoc (line_text l) (10 ∷ []) more))
@@ -76,7 +76,7 @@ stands text rest more r v k l s b p = record {
 
 -- ---- where it fails
 
-bounded_none : (o : Option Reading) → bounded o ≡ Err NoLine → o ≡ None
+pub bounded_none : (o : Option Reading) → bounded o ≡ Err NoLine → o ≡ None
 bounded_none None e = refl
 bounded_none (Some r) e = absurd (by (nat_lt most_bytes (length (text_of_lines (lines_so_far r.body)))) e)
   where
@@ -84,7 +84,7 @@ bounded_none (Some r) e = absurd (by (nat_lt most_bytes (length (text_of_lines (
     by true p = let w = p in cc
     by false p = let w = p in cc
 
-not_nothing : (t more : Text) → t ++ 10 ∷ more ≡ [] → ⊥
+pub not_nothing : (t more : Text) → t ++ 10 ∷ more ≡ [] → ⊥
 not_nothing [] more e = let w = e in cc
 not_nothing (x ∷ t) more e = let w = e in cc
 

@@ -8,8 +8,8 @@ use Rattle.brisk_derivation.specs.Steps.{Step, Basic, Branch, While, For, Repeat
 use Rattle.brisk_rules.specs.Derives.{Failure, outcome}
 use Rattle.brisk_loops.specs.Walk.{Walked, Called, Call, Enter, Apply, Other, Leave, alone, made, made_all, calls, calls_of, start, finish}
 use Rattle.brisk_loops.proofs.Walking.{walk_derives}
-use Rattle.brisk_derivtext.specs.Lines.{Line}
-use Rattle.brisk_derivtext.specs.Lines as line
+use Rattle.brisk_derivtext.specs.declared.line.Line.{Line}
+use Rattle.brisk_derivtext.specs.declared.line.Line.TheVariants as line
 use Rattle.brisk_derivtext.specs.Texts.{lines_in, lines_of}
 use Rattle.brisk_check.specs.Checking.{calls_at, calls_in, Walking, after_call, after_calls, gone, walk_ends}
 

@@ -1,18 +1,20 @@
 -- Each text is read or fails; so what the checker tells holds.
-use Rattle.std.proofs.Common.{◌≡◌, ◌≤◌, ℕ, zero, suc, ◌+◌, ◌⊎◌, inl, inr, Bool, true, false, List, [], ◌∷◌, ◌++◌, length, length-append, Option, Some, None, refl, sym, ap, subst, ◌∙◌, append_assoc, append-nil, arith}
-use Rattle.std.specs.Prelude.{Result, Ok, Err, nat_lt, if◌then◌else◌}
-use Rattle.std.specs.List.{AllByRecursion}
+use Rattle.std.proofs.Common.{◌≡◌, ◌≤◌, ℕ, zero, suc, ◌+◌, ◌⊎◌, inl, inr, Bool, true, false, List, [], ◌∷◌, ◌++◌, length, length-append, Option, Some, None, refl, sym, ap, subst, ◌∙◌, append-nil, arith}
+use Rattle.std.specs.Prelude.{Result, Ok, Err}
 use Rattle.brisk_lines.specs.Lines.{Reads}
 use Rattle.brisk_lines.specs.Pieces.{Lacks}
 use Rattle.brisk_lines.proofs.Cuts.{cut_once}
 use Rattle.brisk_text.specs.Values.{Text}
 use Rattle.brisk_derivation.specs.Steps.{Steps}
-use Rattle.brisk_derivtext.specs.Lines.{Format, Line, line_text, IsLegal, BeginsWith}
-use Rattle.brisk_derivtext.specs.Reading.{Reading, start, Trouble, NoLine, TooLong, next, bounded, read_line, read_all, and_then, ComesTo, IsRead, TextFault, AtLine, TooLarge, Fails, lines_so_far}
-use Rattle.brisk_derivtext.specs.Texts.{text_of_lines, most_bytes}
+use Rattle.brisk_derivtext.specs.declared.line.Format.{Format}
+use Rattle.brisk_derivtext.specs.declared.line.Line.{Line}
+use Rattle.brisk_derivtext.specs.Lines.{line_text, IsLegal, BeginsWith}
+use Rattle.brisk_derivtext.specs.Reading.{Reading, start, Trouble, NoLine, TooLong, next, read_line, ComesTo, IsRead, TextFault, AtLine, TooLarge, Fails}
+use Rattle.brisk_derivtext.specs.Texts.{text_of_lines}
 use Rattle.brisk_derivtext.proofs.Differ.{line_unended}
-use Rattle.brisk_derivtext.proofs.Once.{same_ok, first_read, same_begins}
-use Rattle.brisk_derivtext.proofs.Written.{HasFormat, next_has, some_bounded, texts_append}
+use Rattle.brisk_derivtext.proofs.Once.{same_begins}
+use Rattle.brisk_derivtext.proofs.Onward.{bounded_none, legal_more, not_nothing, one_more, read_more}
+use Rattle.brisk_derivtext.proofs.Written.{HasFormat, next_has, some_bounded}
 use Rattle.brisk_check.specs.Checking.{Reader, verdict, Verdict}
 use Rattle.brisk_check.specs.Laws.{IsReader, ToldFaultHolds, GivenVerdictHolds}
 use Rattle.brisk_check.proofs.Fed.{first_end, verdict_is_given, fault_is_told}
@@ -20,28 +22,6 @@ use Rattle.brisk_check.proofs.Fed.{first_end, verdict_is_given, fault_is_told}
 -- a text that is read, or that fails
 abbrev Decided : Text → Type 0
 Decided text = ((f : Format) × (D : Steps) × IsRead f text D) ⊎ ((fault : TextFault) × Fails text fault)
-
-read_more : (ls : List Line) (l : Line) (r h v : Reading) → read_all ls r ≡ Ok h → read_line h l ≡ Ok v → read_all (ls ++ l ∷ []) r ≡ Ok v
-read_more [] l r h v e p = ap (λ z. and_then (read_line z l) (read_all [])) (same_ok e) ∙ ap (λ z. and_then z (read_all [])) p
-read_more (x ∷ ls) l r h v e p =
-    let one = first_read (read_line r x) (read_all ls) h e in
-    ap (λ z. and_then z (read_all (ls ++ l ∷ []))) one.1 ∙ read_more ls l one.0 h v one.2 p
-
-legal_more : (ls : List Line) (l : Line) → AllByRecursion IsLegal ls → IsLegal l → AllByRecursion IsLegal (ls ++ l ∷ [])
-legal_more [] l h k = (k, tt)
-legal_more (x ∷ ls) l h k = (h.0, legal_more ls l h.1 k)
-
-bounded_none : (o : Option Reading) → bounded o ≡ Err NoLine → o ≡ None
-bounded_none None e = refl
-bounded_none (Some r) e = absurd (by (nat_lt most_bytes (length (text_of_lines (lines_so_far r.body)))) e)
-  where
-    by : (t : Bool) → (if t then Err TooLong else Ok r) ≡ Err NoLine → ⊥
-    by true p = let w = p in cc
-    by false p = let w = p in cc
-
-not_nothing : (t more : Text) → t ++ 10 ∷ more ≡ [] → ⊥
-not_nothing [] more e = let w = e in cc
-not_nothing (x ∷ t) more e = let w = e in cc
 
 -- the line in front, where bytes are cut at the first byte 10
 front : (rest t more : Text) → Lacks 10 t → rest ≡ t ++ 10 ∷ more → (l : Line) (m : Text) → BeginsWith rest l m → t ≡ line_text l
@@ -64,13 +44,6 @@ at_rest text [] before r true d e c f lacks =
     inl (format.0, r.body.steps, record { lines = before; last = r; parts = e ∙ append-nil (text_of_lines before); comes = c; format = format.1; ended = d; steps = refl })
 at_rest text [] before r false d e c f lacks = fails_at text [] before r e c (λ k. absurd (let wrong : false ≡ true = sym d ∙ k.0 in cc)) (λ l m b. absurd (no_front [] lacks l m b))
 at_rest text (x ∷ rest) before r ended d e c f lacks = fails_at text (x ∷ rest) before r e c (λ k. let wrong = k.1 in cc) (λ l m b. absurd (no_front (x ∷ rest) lacks l m b))
-
-one_more : (before : List Line) (l : Line) (text more : Text) → text ≡ text_of_lines before ++ (line_text l ++ 10 ∷ more) → text ≡ text_of_lines (before ++ l ∷ []) ++ more
-one_more before l text more e =
-    e
-    ∙ ap (λ z. text_of_lines before ++ z) (sym (append_assoc (line_text l) (10 ∷ []) more))
-    ∙ sym (append_assoc (text_of_lines before) (line_text l ++ 10 ∷ []) more)
-    ∙ ap (λ z. z ++ more) (sym (texts_append before (l ∷ [])))
 
 -- a line stands next
 at_line : (text : Text) (n : ℕ) → Decides text n → (before : List Line) (r : Reading) (rest more : Text) (l : Line) → length rest ≤ n + 1 → text ≡ text_of_lines before ++ rest → ComesTo before r → BeginsWith rest l more → (x : Result Reading Trouble) → read_line r l ≡ x → Decided text

@@ -10,7 +10,8 @@ use Rattle.brisk_text.specs.Values.{Text}
 use Rattle.brisk_syntax.specs.declared.program.Program.{Program}
 use Rattle.brisk_rules.specs.Derives.{outcome}
 use Rattle.brisk_loops.specs.Walk as walk
-use Rattle.brisk_derivtext.specs.Lines.{Line, line_text, IsLegal, BeginsWith}
+use Rattle.brisk_derivtext.specs.declared.line.Line.{Line}
+use Rattle.brisk_derivtext.specs.Lines.{line_text, IsLegal, BeginsWith}
 use Rattle.brisk_derivtext.specs.Reading.{Reading, start, NoLine, TooLong, next, bounded, read_line, read_all, ComesTo, TextFault, AtLine, TooLarge, FailsBehind, lines_around, lines_so_far}
 use Rattle.brisk_derivtext.specs.Texts.{text_of_lines, lines_of}
 use Rattle.brisk_derivtext.proofs.Differ.{line_unended, lines_differ}
@@ -95,9 +96,9 @@ fed_lines read P reader (l ∷ ls) n r h w more g e k q =
     let kept = next_keeps r one.0 l k (some_bounded (next r l) one.0 one.1) in
     let w2 = after_calls (calls_for r l) w in
     let walks : Walks P one.0 w2 =
-        ap (after_calls (calls_for r l)) q
-        ∙ sym (after_append (main_calls r) (calls_for r l) (record { walked = walk.start P; failure = None }))
-        ∙ ap (λ z. after_calls z (record { walked = walk.start P; failure = None })) (sym kept.1) in
+    ap (after_calls (calls_for r l)) q
+    ∙ sym (after_append (main_calls r) (calls_for r l) (record { walked = walk.start P; failure = None }))
+    ∙ ap (λ z. after_calls z (record { walked = walk.start P; failure = None })) (sym kept.1) in
     let rest = fed_lines read P reader ls (n + 1) one.0 h w2 more g.1 one.2 kept.0 walks in
     record {
       at = rest.at;
@@ -128,11 +129,11 @@ verdict_is_given read P f text seq D reader h =
     let done = fed.kept.done h.ended in
     let whole : text ≡ text_of_lines h.lines ++ [] = h.parts ∙ sym (append-nil (text_of_lines h.lines)) in
     let calls : main_calls r ≡ calls_in (lines_of D) =
-        ap (λ t. if t then calls_in (lines_so_far r.body) else []) done.0
-        ∙ ap (λ z. calls_in (lines_around z ++ lines_of r.body.steps)) done.1
-        ∙ ap (λ z. calls_in (lines_of z)) h.steps in
+    ap (λ t. if t then calls_in (lines_so_far r.body) else []) done.0
+    ∙ ap (λ z. calls_in (lines_around z ++ lines_of r.body.steps)) done.1
+    ∙ ap (λ z. calls_in (lines_of z)) h.steps in
     let gives : walk_ends fed.at.walked fed.at.failure ≡ outcome P D =
-        walk_gives P D fed.at (fed.walks ∙ ap (λ z. after_calls z (record { walked = walk.start P; failure = None })) calls) in
+    walk_gives P D fed.at (fed.walks ∙ ap (λ z. after_calls z (record { walked = walk.start P; failure = None })) calls) in
     ap (λ z. finish (feed read (begun P) z) seq) whole
     ∙ ap (λ z. finish z seq) fed.fed
     ∙ ap (λ t. unless_undone t (length h.lines + 1) (judged seq (walk_ends fed.at.walked fed.at.failure))) h.ended
@@ -147,6 +148,7 @@ fault_kept read c f (x ∷ bs) e = fault_kept read (byte read c x) f bs (by (x =
     taken_so : (o : Option TextFault) → o ≡ Some f → c.fault ≡ Some f → (taken c o (read c.rest)).fault ≡ Some f
     taken_so None k g = absurd (let w = k in cc)
     taken_so (Some z) k g = g
+
     by : (t : Bool) → (if t then taken c c.fault (read c.rest) else record c { rest = c.rest ++ x ∷ [] }).fault ≡ Some f
     by true = taken_so c.fault e e
     by false = e
@@ -161,6 +163,7 @@ first_end (x ∷ b) = by (x == 10) refl (first_end b)
   where
     joins : (t : Text) → (x == 10) ≡ false → Lacks 10 t → Lacks 10 (x ∷ t)
     joins t e h = ap (λ z. not z && list_all (differs 10) t) e ∙ h
+
     by : (t : Bool) → (x == 10) ≡ t → Lacks 10 b ⊎ ((t : Text) × (more : Text) × Lacks 10 t × (b ≡ t ++ 10 ∷ more)) → Lacks 10 (x ∷ b) ⊎ ((t : Text) × (more : Text) × Lacks 10 t × (x ∷ b ≡ t ++ 10 ∷ more))
     by true e k = inr ([], b, refl, ap (λ z. z ∷ b) (eqb-true x 10 e))
     by false e (inl k) = inl (joins b e k)

@@ -5,8 +5,12 @@ use Rattle.brisk_values.specs.Names.{Name}
 use Rattle.brisk_derivation.specs.Depths.{steps_depth}
 use Rattle.brisk_derivation.specs.Steps.{Steps}
 use Rattle.brisk_loops.specs.Walk.{Call}
-use Rattle.brisk_derivtext.specs.Lines.{Format, Format1, Format2, Line, Head, Plain, Fork, Enter, Else, Join, Close, End, Part, EndPart, Use}
-use Rattle.brisk_derivtext.specs.Reading.{Open, Body, empty, put, ◌then◌, lines_around, lines_so_far, Reading, start, with_body, with_steps, part_named, used, is_empty, is_whole, part_ended, behind_head, at_head, in_format, next}
+use Rattle.brisk_derivtext.specs.declared.line.Format.{Format}
+use Rattle.brisk_derivtext.specs.declared.line.Format.TheVariants.{Format1, Format2}
+use Rattle.brisk_derivtext.specs.declared.line.Line.{Line}
+use Rattle.brisk_derivtext.specs.declared.line.Line.TheVariants.{Head, Plain, Fork, Enter, Else, Join, Close, End, Part, EndPart, Use}
+use Rattle.brisk_derivtext.specs.declared.open.Open.{Open}
+use Rattle.brisk_derivtext.specs.Reading.{Body, empty, put, ◌then◌, lines_around, lines_so_far, Reading, start, with_body, with_steps, part_named, used, is_empty, is_whole, part_ended, behind_head, at_head, in_format, next}
 use Rattle.brisk_derivtext.specs.Texts.{lines_of, most_nested}
 use Rattle.brisk_derivtext.proofs.Putting.{grows, lines_then}
 use Rattle.brisk_check.specs.Checking.{calls_in, lines_if, stands_for, calls_for}
@@ -81,6 +85,7 @@ used_grows b c (Some a) e = by (nat_lt most_nested (length b.entered + steps_dep
   where
     same : {x y : Body} → Some x ≡ Some y → x ≡ y
     same p = cc
+
     by : (t : Bool) → (if t then None else Some (record b { steps = b.steps then a })) ≡ Some c → lines_so_far c ≡ lines_so_far b ++ lines_of a
     by true p = absurd (let w = p in cc)
     by false p = ap lines_so_far (sym (same p)) ∙ ap (λ z. lines_around b.entered ++ z) (lines_then b.steps a) ∙ sym (append_assoc (lines_around b.entered) (lines_of b.steps) (lines_of a))
@@ -97,8 +102,7 @@ end_keeps : (r v : Reading) (t : Bool) → Kept r → (is_none r.part && is_whol
 end_keeps r v false h k e = absurd (no_some e)
 end_keeps r v true h k e =
     let two = both_true (is_none r.part) (is_whole r.body) k in
-    subst (Keeps r End) (the_same e)
-    (
+    subst (Keeps r End) (the_same e) (
       record { unbegun = h.unbegun; outside = h.outside; done = λ d. (two.0, none_entered r.body.entered two.1) },
       no_more (main_calls r) (calls_for r End) (silent r End refl),
     )
@@ -114,8 +118,7 @@ part_keeps : (r v : Reading) (n : Name) (t : Bool) → r.ended ≡ false → Kep
 part_keeps r v n false z h k e = absurd (no_some e)
 part_keeps r v n true z h k e =
     let three = guards (is_none r.part) r.main (is_none (part_named n r.parts)) k in
-    subst (Keeps r (Part n)) (the_same e)
-    (
+    subst (Keeps r (Part n)) (the_same e) (
       record { unbegun = λ m p. refl; outside = λ p. three.1; done = λ d. absurd (no_true (sym z ∙ d)) },
       sym (begun_calls r h three.0 three.1) ∙ no_more (main_calls r) (calls_for r (Part n)) (silent r (Part n) refl),
     )
@@ -134,11 +137,10 @@ endpart_keeps r v (Some n) z h k e = by (is_whole r.body) e
   where
     by : (t : Bool) → (if t then Some (record r { parts = record { name = n; steps = r.body.steps } ∷ r.parts; part = None; body = empty }) else None) ≡ Some v → Keeps r EndPart v
     by false p = absurd (no_some p)
-    by true p = subst (Keeps r EndPart) (the_same p)
-        (
-          record { unbegun = λ m q. refl; outside = λ q. absurd (no_true (sym q)); done = λ d. absurd (no_true (sym z ∙ d)) },
-          sym (in_part r n k) ∙ no_more (main_calls r) (calls_for r EndPart) (silent r EndPart refl),
-        )
+    by true p = subst (Keeps r EndPart) (the_same p) (
+      record { unbegun = λ m q. refl; outside = λ q. absurd (no_true (sym q)); done = λ d. absurd (no_true (sym z ∙ d)) },
+      sym (in_part r n k) ∙ no_more (main_calls r) (calls_for r EndPart) (silent r EndPart refl),
+    )
 
 behind_keeps : (f : Format) (r v : Reading) (l : Line) → r.ended ≡ false → Kept r → behind_head f r l ≡ Some v → Keeps r l v
 behind_keeps Format1 r v End z h e = end_keeps r v (is_none r.part && is_whole r.body) h refl e

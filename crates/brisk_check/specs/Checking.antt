@@ -8,8 +8,9 @@ use Rattle.brisk_derivation.specs.Steps.{Branch, Steps, no_steps}
 use Rattle.brisk_rules.specs.Derives.{Failure, outcome}
 use Rattle.brisk_loops.specs.Walk.{Walked, Called, Call, Enter, Apply, Other, Leave, made}
 use Rattle.brisk_loops.specs.Walk as walk
-use Rattle.brisk_derivtext.specs.Lines.{Line, Plain, Fork, Else, Join, Close, Use}
-use Rattle.brisk_derivtext.specs.Lines as line
+use Rattle.brisk_derivtext.specs.declared.line.Line.{Line}
+use Rattle.brisk_derivtext.specs.declared.line.Line.TheVariants.{Plain, Fork, Else, Join, Close, Use}
+use Rattle.brisk_derivtext.specs.declared.line.Line.TheVariants as line
 use Rattle.brisk_derivtext.specs.Reading.{Reading, Trouble, NoLine, TooLong, read_line, part_named, around, TextFault, AtLine, TooLarge}
 use Rattle.brisk_derivtext.specs.Reading as text
 use Rattle.brisk_derivtext.specs.Texts.{lines_of}

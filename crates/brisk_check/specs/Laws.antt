@@ -4,7 +4,8 @@ use Rattle.brisk_lines.specs.Lines.{Reads}
 use Rattle.brisk_text.specs.Values.{Text}
 use Rattle.brisk_syntax.specs.declared.program.Program.{Program}
 use Rattle.brisk_derivation.specs.Steps.{Steps}
-use Rattle.brisk_derivtext.specs.Lines.{Format, line_text, IsLegal}
+use Rattle.brisk_derivtext.specs.declared.line.Format.{Format}
+use Rattle.brisk_derivtext.specs.Lines.{line_text, IsLegal}
 use Rattle.brisk_derivtext.specs.Parsing.{line_in}
 use Rattle.brisk_derivtext.specs.Reading.{Fails, IsRead, TextFault}
 use Rattle.brisk_check.specs.Checking.{Reader, Checking, feed, after, finish, verdict, Verdict}

@@ -4,9 +4,14 @@ use Rattle.std.specs.Prelude.{if◌then◌else◌, Ok}
 use Rattle.std.specs.List.{AllByRecursion}
 use Rattle.brisk_derivation.specs.Depths.{steps_depth}
 use Rattle.brisk_derivation.specs.Steps.{Branch, Steps, no_steps, ◌▷◌}
-use Rattle.brisk_derivtext.specs.Lines.{Format1, Format2, Line, Head, Plain, Fork, Enter, Else, Join, Close, End, Part, EndPart, Use, IsLegal}
+use Rattle.brisk_derivtext.specs.declared.line.Format.TheVariants.{Format1, Format2}
+use Rattle.brisk_derivtext.specs.declared.line.Line.{Line}
+use Rattle.brisk_derivtext.specs.declared.line.Line.TheVariants.{Head, Plain, Fork, Enter, Else, Join, Close, End, Part, EndPart, Use}
+use Rattle.brisk_derivtext.specs.Lines.{IsLegal}
 use Rattle.brisk_derivtext.specs.Laws.{LinesBegin, BeginningsStand}
-use Rattle.brisk_derivtext.specs.Reading.{Open, InLoop, InFirst, InSecond, Body, empty, put, ◌then◌, around, lines_so_far, Reading, start, with_steps, is_empty, in_format, within_bytes, bounded, and_then, read_line, read_all}
+use Rattle.brisk_derivtext.specs.declared.open.Open.{Open}
+use Rattle.brisk_derivtext.specs.declared.open.Open.TheVariants.{InLoop, InFirst, InSecond}
+use Rattle.brisk_derivtext.specs.Reading.{Body, empty, put, ◌then◌, around, lines_so_far, Reading, start, with_steps, is_empty, in_format, within_bytes, bounded, and_then, read_line, read_all}
 use Rattle.brisk_derivtext.specs.Texts.{lines_of, derivation_lines, most_nested}
 use Rattle.brisk_derivtext.proofs.Once.{first_read, no_ok, same_ok}
 use Rattle.brisk_derivtext.proofs.Putting.{go_on, put_all, grows, all_grow, IsNested, stays_nested, all_nested}
@@ -96,8 +101,7 @@ behind_head : (ls : List Line) (r : Reading) (ended : Bool) → r.ended ≡ ende
 behind_head ls r false e h f p =
     let c = unended ls false empty r e p in
     let g = goes_on r.body.entered r.body.steps (all_nested ls empty r.body (omega arith, tt) c) in
-    let lines : ls ++ g.more ≡ lines_of g.steps = ap (λ z. z ++ g.more) (sym (all_grow ls empty r.body c)) ∙ g.lines in
-    (
+    let lines : ls ++ g.more ≡ lines_of g.steps = ap (λ z. z ++ g.more) (sym (all_grow ls empty r.body c)) ∙ g.lines in (
       g.steps,
       g.more ++ End ∷ [],
       ap (λ z. Head Format1 ∷ z) (sym (append_assoc ls g.more (End ∷ [])) ∙ ap (λ z. z ++ End ∷ []) lines),
@@ -107,8 +111,7 @@ behind_head ls r false e h f p =
 behind_head ls r true e h f p =
     let t = takes ls false empty r e p in
     let deep = (all_nested t.inner empty r.body (omega arith, tt) t.put).0 in
-    let inner : t.inner ≡ lines_of r.body.steps = sym (all_grow t.inner empty r.body t.put) ∙ ap (λ z. lines_so_far (record { entered = z; steps = r.body.steps })) t.closed in
-    (
+    let inner : t.inner ≡ lines_of r.body.steps = sym (all_grow t.inner empty r.body t.put) ∙ ap (λ z. lines_so_far (record { entered = z; steps = r.body.steps })) t.closed in (
       r.body.steps,
       [],
       ap (λ z. Head Format1 ∷ z) (append-nil ls ∙ t.parts ∙ ap (λ z. z ++ End ∷ []) inner),

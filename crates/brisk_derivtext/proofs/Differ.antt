@@ -17,7 +17,12 @@ use Rattle.brisk_lines.specs.Pieces.{differs, Lacks, Begins}
 use Rattle.brisk_lines.proofs.Cuts.{cut_once, clash}
 use Rattle.brisk_lines.proofs.Decimals.{decimal_same}
 use Rattle.brisk_lines.proofs.Plain.{name_lacks, both_lack, decimal_lacks}
-use Rattle.brisk_derivtext.specs.Lines.{Format1, Format2, Loop, While, For, Repeat, Gather, Pick, Line, Head, Plain, Fork, Enter, Else, Join, Close, End, Part, EndPart, Use, fact_text, drop_words, first_word, more_words, spaced, line_text, IsLegalFact, IsLegalBasic, IsLegalLoop, IsLegal}
+use Rattle.brisk_derivtext.specs.declared.line.Format.TheVariants.{Format1, Format2}
+use Rattle.brisk_derivtext.specs.declared.line.Loop.{Loop}
+use Rattle.brisk_derivtext.specs.declared.line.Loop.TheVariants.{While, For, Repeat, Gather, Pick}
+use Rattle.brisk_derivtext.specs.declared.line.Line.{Line}
+use Rattle.brisk_derivtext.specs.declared.line.Line.TheVariants.{Head, Plain, Fork, Enter, Else, Join, Close, End, Part, EndPart, Use}
+use Rattle.brisk_derivtext.specs.Lines.{fact_text, drop_words, first_word, more_words, spaced, line_text, IsLegalFact, IsLegalBasic, IsLegalLoop, IsLegal}
 use Rattle.brisk_derivtext.specs.Laws.{LinesDiffer, LinesAreCut}
 
 -- ---- words lack the space and byte 10
@@ -65,6 +70,9 @@ module _ (c : ℕ) (plain : is_plain c ≡ true) (low : c < 46) (dot : differs c
 pub no_space : (l : Line) → IsLegal l → AllByRecursion (Lacks 32) (more_words l)
 no_space = words_so 32 refl (omega arith) refl refl refl refl refl refl
 
+pub fact_no_space : (f : Fact) → IsLegalFact f → Lacks 32 (fact_text f)
+fact_no_space = fact_so 32 refl (omega arith) refl refl refl refl refl refl
+
 no_end : (l : Line) → IsLegal l → AllByRecursion (Lacks 10) (more_words l)
 no_end = words_so 10 refl (omega arith) refl refl refl refl refl refl
 
@@ -96,7 +104,7 @@ first_no_end l = refl
 
 -- ---- words are known by their text
 
-spaced_begins : (ws : List Text) → Begins 32 (spaced ws)
+pub spaced_begins : (ws : List Text) → Begins 32 (spaced ws)
 spaced_begins [] = tt
 spaced_begins (w ∷ ws) = refl
 

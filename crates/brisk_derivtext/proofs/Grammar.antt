@@ -1,15 +1,20 @@
 -- What is read in format 2 is a text by its grammar.
-use Rattle.std.proofs.Common.{◌≡◌, ◌≤◌, ◌<◌, ◌+◌, ℕ, max, Bool, true, false, not, ◌||◌, ◌&&◌, List, [], ◌∷◌, ◌++◌, length, Option, Some, None, refl, sym, ap, subst, ◌∙◌, append_assoc, append-nil, arith}
-use Rattle.std.specs.Prelude.{if◌then◌else◌, nat_lt, is_none, option_map, Result, Ok, Err}
+use Rattle.std.proofs.Common.{◌≡◌, ◌≤◌, ◌+◌, Bool, true, false, not, ◌||◌, ◌&&◌, List, [], ◌∷◌, ◌++◌, length, Option, Some, None, refl, sym, ap, subst, ◌∙◌, append_assoc, append-nil, arith}
+use Rattle.std.specs.Prelude.{if◌then◌else◌, nat_lt, is_none, option_map, Ok}
 use Rattle.std.specs.List.{AllByRecursion}
 use Rattle.std.proofs.lemmas.Bool.{ltb-false}
 use Rattle.brisk_values.specs.Names.{Name}
-use Rattle.brisk_derivation.specs.Depths.{steps_depth, step_depth}
+use Rattle.brisk_derivation.specs.Depths.{steps_depth}
 use Rattle.brisk_derivation.specs.Steps.{Basic, Branch, Steps, no_steps, ◌▷◌}
 use Rattle.brisk_derivtext.specs.Laws.{ReadIsGrammar}
-use Rattle.brisk_derivtext.specs.Lines.{Format1, Format2, Loop, Line, Head, Plain, Fork, Enter, Else, Join, Close, End, Part, EndPart, Use, IsLegal}
-use Rattle.brisk_derivtext.specs.Parts.{Place, Step, Forked, Looped, Used, Places, nowhere, ◌⊳◌, place_lines, places_lines, both_steps, forked, put_in, in_place, Written, part_lines, parts_lines, AreWithin, PartsStand, IsText2}
-use Rattle.brisk_derivtext.specs.Reading.{Ended, Reading, start, part_named, used, with_steps, around, ◌then◌, Open, InLoop, InFirst, InSecond, Body, empty, add, in_rule, second_side, joined, closed, is_empty, put, lines_around, lines_so_far, within_bytes, bounded, and_then, read_line, read_all}
+use Rattle.brisk_derivtext.specs.declared.line.Format.TheVariants.{Format1, Format2}
+use Rattle.brisk_derivtext.specs.declared.line.Line.{Line}
+use Rattle.brisk_derivtext.specs.declared.line.Line.TheVariants.{Head, Plain, Fork, Enter, Else, Join, Close, End, Part, EndPart, Use}
+use Rattle.brisk_derivtext.specs.Lines.{IsLegal}
+use Rattle.brisk_derivtext.specs.Parts.{Place, Step, Forked, Looped, Used, Places, nowhere, ◌⊳◌, place_lines, places_lines, both_steps, forked, put_in, in_place, Written, part_lines, parts_lines, AreWithin, PartsStand}
+use Rattle.brisk_derivtext.specs.declared.open.Open.{Open}
+use Rattle.brisk_derivtext.specs.declared.open.Open.TheVariants.{InLoop, InFirst, InSecond}
+use Rattle.brisk_derivtext.specs.Reading.{Ended, Reading, start, part_named, used, with_steps, around, ◌then◌, Body, empty, in_rule, second_side, joined, closed, is_empty, put, lines_around, lines_so_far, within_bytes, bounded, and_then, read_all}
 use Rattle.brisk_derivtext.specs.Texts.{text_of_lines, lines_of, most_nested, AreFew}
 use Rattle.brisk_derivtext.proofs.Once.{same_some, same_ok, no_ok, first_read}
 use Rattle.brisk_derivtext.proofs.Putting.{then_nothing, then_assoc, depth_then, entered_inverse, IsNested, stays_nested, nothing_put, same_body}
@@ -224,10 +229,10 @@ part_ends n ls ps m b h sofar true k e nested few s p more =
     let none = none_entered b.entered k in
     let w : Written = record { name = n; places = s.4.p } in
     let lines : sofar ++ EndPart ∷ [] ≡ parts_lines (s.0 ++ w ∷ []) ++ [] =
-        ap (λ z. z ++ EndPart ∷ []) (s.6 ∙ ap (λ z. parts_lines s.0 ++ Part n ∷ z) (whole_lines ps b s.1 s.4 none))
-        ∙ append_assoc (parts_lines s.0) (Part n ∷ places_lines s.4.p) (EndPart ∷ [])
-        ∙ sym (lines_more s.0 w)
-        ∙ sym (append-nil (parts_lines (s.0 ++ w ∷ []))) in
+    ap (λ z. z ++ EndPart ∷ []) (s.6 ∙ ap (λ z. parts_lines s.0 ++ Part n ∷ z) (whole_lines ps b s.1 s.4 none))
+    ∙ append_assoc (parts_lines s.0) (Part n ∷ places_lines s.4.p) (EndPart ∷ [])
+    ∙ sym (lines_more s.0 w)
+    ∙ sym (append-nil (parts_lines (s.0 ++ w ∷ []))) in
     regroup sofar EndPart ls h
     (more (record { name = n; steps = b.steps } ∷ ps) None m empty h (sofar ++ EndPart ∷ []) e (omega arith, tt) (omega arith)
     (s.0 ++ w ∷ [], [], parts_more [] ps s.0 w b.steps s.2 s.3 s.4.steps (whole_within b none nested few), empty_body (record { name = n; steps = b.steps } ∷ ps), λ z. refl, lines) p)

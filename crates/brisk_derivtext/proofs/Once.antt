@@ -3,7 +3,8 @@ use Rattle.std.proofs.Common.{◌≡◌, true, List, [], ◌∷◌, ◌++◌, So
 use Rattle.std.specs.Prelude.{Result, Ok, Err}
 use Rattle.std.specs.List.{AllByRecursion}
 use Rattle.brisk_text.specs.Values.{Text}
-use Rattle.brisk_derivtext.specs.Lines.{Line, line_text, IsLegal, BeginsWith}
+use Rattle.brisk_derivtext.specs.declared.line.Line.{Line}
+use Rattle.brisk_derivtext.specs.Lines.{line_text, IsLegal, BeginsWith}
 use Rattle.brisk_derivtext.specs.Laws.{FailsOnce, ReadOnce, ReadStands}
 use Rattle.brisk_derivtext.specs.Reading.{Reading, start, next, Trouble, NoLine, TooLong, bounded, and_then, read_line, read_all, TextFault, AtLine, TooLarge, FailsBehind}
 use Rattle.brisk_derivtext.specs.Texts.{text_of_lines}

@@ -17,7 +17,11 @@ use Rattle.brisk_values.specs.Names.{Name, same_name}
 use Rattle.brisk_values.proofs.Changes.{name_laws, exact_name}
 use Rattle.brisk_derivation.specs.declared.steps.BasicStep.TheVariants as basic
 use Rattle.brisk_derivation.specs.declared.steps.Fact.{Fact}
-use Rattle.brisk_derivtext.specs.Lines.{Format1, Format2, While, For, Repeat, Gather, Pick, Line, Head, Plain, Fork, Enter, Else, Join, Close, End, Part, EndPart, Use, fact_text, drop_words, first_word, more_words, spaced, line_text, IsLegalFact, IsLegal}
+use Rattle.brisk_derivtext.specs.declared.line.Format.TheVariants.{Format1, Format2}
+use Rattle.brisk_derivtext.specs.declared.line.Loop.TheVariants.{While, For, Repeat, Gather, Pick}
+use Rattle.brisk_derivtext.specs.declared.line.Line.{Line}
+use Rattle.brisk_derivtext.specs.declared.line.Line.TheVariants.{Head, Plain, Fork, Enter, Else, Join, Close, End, Part, EndPart, Use}
+use Rattle.brisk_derivtext.specs.Lines.{fact_text, drop_words, first_word, more_words, spaced, line_text, IsLegalFact, IsLegal}
 use Rattle.brisk_derivtext.specs.Parsing.{is_name, is_legal_fact, is_legal, onto, words, dotted, one_more, facts_in, at_word, owners_in, guess, tested, line_in}
 use Rattle.brisk_derivtext.proofs.Differ.{no_space, first_no_space}
 

@@ -6,9 +6,14 @@ use Rattle.brisk_values.specs.Names.{Name}
 use Rattle.brisk_derivation.specs.Depths.{steps_depth}
 use Rattle.brisk_derivation.specs.Steps.{Basic, Branch, Steps, no_steps, ◌▷◌}
 use Rattle.brisk_derivtext.specs.Laws.{GrammarIsRead}
-use Rattle.brisk_derivtext.specs.Lines.{Format2, Loop, Line, Head, Plain, Fork, Enter, Else, Join, Close, End, EndPart, Use}
+use Rattle.brisk_derivtext.specs.declared.line.Format.TheVariants.{Format2}
+use Rattle.brisk_derivtext.specs.declared.line.Loop.{Loop}
+use Rattle.brisk_derivtext.specs.declared.line.Line.{Line}
+use Rattle.brisk_derivtext.specs.declared.line.Line.TheVariants.{Head, Plain, Fork, Enter, Else, Join, Close, End, EndPart, Use}
 use Rattle.brisk_derivtext.specs.Parts.{Place, Step, Forked, Looped, Used, Places, nowhere, ◌⊳◌, place_lines, places_lines, both_steps, forked, put_in, in_place, Written, part_lines, parts_lines, AreWithin, PartsStand}
-use Rattle.brisk_derivtext.specs.Reading.{Ended, Reading, part_named, used, with_steps, around, ◌then◌, Open, InLoop, InFirst, InSecond, Body, empty, add, in_rule, put, lines_around, lines_so_far, bounded, and_then, read_all}
+use Rattle.brisk_derivtext.specs.declared.open.Open.{Open}
+use Rattle.brisk_derivtext.specs.declared.open.Open.TheVariants.{InLoop, InFirst, InSecond}
+use Rattle.brisk_derivtext.specs.Reading.{Ended, Reading, part_named, used, with_steps, around, ◌then◌, Body, empty, add, in_rule, put, lines_around, lines_so_far, bounded, and_then, read_all}
 use Rattle.brisk_derivtext.specs.Texts.{lines_of, most_nested, AreFew}
 use Rattle.brisk_derivtext.proofs.Once.{same_some}
 use Rattle.brisk_derivtext.proofs.Putting.{behind_body, then_nothing, then_assoc, lines_then, depth_then, loop_depth, grows}
@@ -60,8 +65,7 @@ loop_as ps r xs a inner pt m b more h few =
     let last : Body = add b (around r a) in
     let n = m || is_none pt in
     let few_inner = few_line Close (behind_body inside a) last refl few in
-    let p = inner pt n inside (Close ∷ more) (omega arith) few_inner in
-    (
+    let p = inner pt n inside (Close ∷ more) (omega arith) few_inner in (
       p.0 || is_none pt,
       λ k e. or_false p.0 (is_none pt) k (p.1 k (or_false m (is_none pt) k e)),
       one_line ps pt m b inside (Enter r) ((xs ++ Close ∷ []) ++ more) (in_so b (InLoop b.steps r) (omega arith)) (few_before inside a few_inner)
@@ -80,8 +84,7 @@ fork_as ps t xs ys a c one two pt m b more h few =
     let few1 = few_line Else (behind_body inside a) beyond refl few_beyond in
     let n = m || is_none pt in
     let p = one pt n inside (Else ∷ ((ys ++ Join ∷ []) ++ more)) (omega arith) few1 in
-    let q = two pt (p.0 || is_none pt) beyond (Join ∷ more) (omega arith) few2 in
-    (
+    let q = two pt (p.0 || is_none pt) beyond (Join ∷ more) (omega arith) few2 in (
       q.0 || is_none pt,
       λ k e. or_false q.0 (is_none pt) k (q.1 k (or_false p.0 (is_none pt) k (p.1 k (or_false m (is_none pt) k e)))),
       one_line ps pt m b inside (Fork t) ((xs ++ Else ∷ (ys ++ Join ∷ [])) ++ more) (in_so b (InFirst b.steps t) (omega arith)) (few_before inside a few1)
@@ -96,8 +99,7 @@ fork_as ps t xs ys a c one two pt m b more h few =
 use_as : (ps : List Ended) (k : Name) (a : Steps) → part_named k ps ≡ Some a → ReadAs ps (Use k ∷ []) a
 use_as ps k a e pt m b more h few =
     let r = reading Format2 ps pt m b in
-    let fits : used b (Some a) ≡ Some (behind_body b a) = ap (λ t. if t then None else Some (behind_body b a)) (le-ltb most_nested (length b.entered + steps_depth a) h) in
-    (
+    let fits : used b (Some a) ≡ Some (behind_body b a) = ap (λ t. if t then None else Some (behind_body b a)) (le-ltb most_nested (length b.entered + steps_depth a) h) in (
       m || is_none pt,
       or_false m (is_none pt),
       ap (λ z. and_then (bounded (with_steps r (used b z))) (read_all more)) e

@@ -5,8 +5,13 @@ use Rattle.std.proofs.lemmas.Bool.{lt-ltb, ltb-true}
 use Rattle.brisk_derivation.specs.Depths.{steps_depth, step_depth}
 use Rattle.brisk_derivation.specs.Steps.{Step, Basic, Branch, Steps, no_steps, ◌▷◌}
 use Rattle.brisk_derivation.specs.Steps as tree
-use Rattle.brisk_derivtext.specs.Lines.{Loop, While, For, Repeat, Gather, Pick, Line, Head, Plain, Fork, Enter, Else, Join, Close, End, Part, EndPart, Use}
-use Rattle.brisk_derivtext.specs.Reading.{◌then◌, around, Open, InLoop, InFirst, InSecond, Body, add, in_rule, second_side, joined, closed, put, lines_before, lines_around, lines_so_far}
+use Rattle.brisk_derivtext.specs.declared.line.Loop.{Loop}
+use Rattle.brisk_derivtext.specs.declared.line.Loop.TheVariants.{While, For, Repeat, Gather, Pick}
+use Rattle.brisk_derivtext.specs.declared.line.Line.{Line}
+use Rattle.brisk_derivtext.specs.declared.line.Line.TheVariants.{Head, Plain, Fork, Enter, Else, Join, Close, End, Part, EndPart, Use}
+use Rattle.brisk_derivtext.specs.declared.open.Open.{Open}
+use Rattle.brisk_derivtext.specs.declared.open.Open.TheVariants.{InLoop, InFirst, InSecond}
+use Rattle.brisk_derivtext.specs.Reading.{◌then◌, around, Body, add, in_rule, second_side, joined, closed, put, lines_before, lines_around, lines_so_far}
 use Rattle.brisk_derivtext.specs.Texts.{lines_in, lines_of, most_nested}
 
 -- ---- lines one after another

@@ -1,23 +1,25 @@
 -- What is written in format 1 is read back, and what is read in format 1 is a text of its steps.
-use Rattle.std.proofs.Common.{◌≡◌, ◌≤◌, ◌+◌, Bool, true, false, not, ◌||◌, ◌&&◌, List, [], ◌∷◌, ◌++◌, length, Option, Some, None, refl, sym, ap, subst, ◌∙◌, append_assoc, length-append, arith}
+use Rattle.std.proofs.Common.{◌≡◌, ◌≤◌, ◌+◌, Bool, true, false, not, ◌||◌, ◌&&◌, List, [], ◌∷◌, ◌++◌, length, Option, Some, None, refl, sym, ap, subst, ◌∙◌, length-append, arith}
 use Rattle.std.specs.Prelude.{if◌then◌else◌, nat_lt, is_none, Ok, Err}
 use Rattle.std.specs.List.{AllByRecursion}
 use Rattle.std.proofs.lemmas.Bool.{le-ltb, ltb-false}
 use Rattle.brisk_values.specs.Names.{Name}
 use Rattle.brisk_derivation.specs.Depths.{steps_depth}
 use Rattle.brisk_derivation.specs.Steps.{Steps}
-use Rattle.brisk_derivtext.specs.Lines.{Format, Format1, Format2, Line, Head, Plain, Fork, Enter, Else, Join, Close, End, Part, EndPart, Use, line_text, IsLegal}
+use Rattle.brisk_derivtext.specs.declared.line.Format.{Format}
+use Rattle.brisk_derivtext.specs.declared.line.Format.TheVariants.{Format1, Format2}
+use Rattle.brisk_derivtext.specs.declared.line.Line.{Line}
+use Rattle.brisk_derivtext.specs.declared.line.Line.TheVariants.{Head, Plain, Fork, Enter, Else, Join, Close, End, Part, EndPart, Use}
+use Rattle.brisk_derivtext.specs.Lines.{IsLegal}
 use Rattle.brisk_derivtext.specs.Laws.{WrittenIsRead, ReadIsWritten, TextsDiffer}
-use Rattle.brisk_derivtext.specs.Reading.{◌then◌, Open, Body, empty, put, lines_around, lines_so_far, Ended, Reading, start, with_body, with_steps, is_empty, is_whole, part_ended, part_named, used, at_head, behind_head, in_format, next, TooLong, within_bytes, bounded, and_then, read_line, read_all, ComesTo}
+use Rattle.brisk_derivtext.specs.declared.open.Open.{Open}
+use Rattle.brisk_derivtext.specs.Reading.{◌then◌, Body, empty, put, lines_around, lines_so_far, Ended, Reading, start, with_body, with_steps, is_empty, is_whole, part_ended, part_named, used, at_head, behind_head, in_format, next, TooLong, within_bytes, bounded, and_then, read_line, read_all, ComesTo}
 use Rattle.brisk_derivtext.specs.Texts.{text_of_lines, lines_of, derivation_lines, most_bytes, most_nested, AreFew, HasText}
+use Rattle.brisk_derivtext.proofs.Appended.{texts_append}
 use Rattle.brisk_derivtext.proofs.Once.{first_read, no_ok, same_ok, same_some, read_once}
 use Rattle.brisk_derivtext.proofs.Putting.{go_on, put_all, first_put, steps_put, all_grow, all_nested, nothing_put}
 
 -- ---- few bytes
-
-pub texts_append : (xs ys : List Line) → text_of_lines (xs ++ ys) ≡ text_of_lines xs ++ text_of_lines ys
-texts_append [] ys = refl
-texts_append (x ∷ xs) ys = ap (λ z. line_text x ++ 10 ∷ z) (texts_append xs ys) ∙ sym (append_assoc (line_text x) (10 ∷ text_of_lines xs) (text_of_lines ys))
 
 pub few_front : (xs ys : List Line) → AreFew (xs ++ ys) → AreFew xs
 few_front xs ys h =
@@ -291,8 +293,7 @@ read_is_written text D h =
     let so_far : lines_so_far b ≡ lines_of b.steps = ap (λ z. lines_around z ++ lines_of b.steps) t.closed in
     let inner : t.inner ≡ lines_of D = sym (all_grow t.inner empty b t.put) ∙ so_far ∙ ap lines_of h.steps in
     let lines : h.lines ≡ derivation_lines D = r.1 ∙ ap (λ z. Head Format1 ∷ z) t.parts ∙ ap (λ z. Head Format1 ∷ (z ++ End ∷ [])) inner in
-    let deep = (all_nested t.inner empty b (omega arith, tt) t.put).0 in
-    (
+    let deep = (all_nested t.inner empty b (omega arith, tt) t.put).0 in (
       record {
         legal = legal_front (lines_of D) (End ∷ []) (subst (AllByRecursion IsLegal) lines h.comes.legal).1;
         nested = subst (λ z. steps_depth z ≤ most_nested) h.steps (omega arith);

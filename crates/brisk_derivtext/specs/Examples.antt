@@ -6,7 +6,11 @@ use Rattle.brisk_derivation.specs.declared.steps.BasicStep.TheVariants.{Assign, 
 use Rattle.brisk_derivation.specs.declared.steps.Fact.{Fact}
 use Rattle.brisk_derivation.specs.Steps.{Step, Basic, Branch, Steps, no_steps, ◌▷◌}
 use Rattle.brisk_derivation.specs.Steps as tree
-use Rattle.brisk_derivtext.specs.Lines.{Format1, Format2, For, Line, Head, Plain, Fork, Enter, Else, Join, Close, End, Part, EndPart, Use, line_text}
+use Rattle.brisk_derivtext.specs.declared.line.Format.TheVariants.{Format1, Format2}
+use Rattle.brisk_derivtext.specs.declared.line.Loop.TheVariants.{For}
+use Rattle.brisk_derivtext.specs.declared.line.Line.{Line}
+use Rattle.brisk_derivtext.specs.declared.line.Line.TheVariants.{Head, Plain, Fork, Enter, Else, Join, Close, End, Part, EndPart, Use}
+use Rattle.brisk_derivtext.specs.Lines.{line_text}
 use Rattle.brisk_derivtext.specs.Reading.{Reading, start, next}
 use Rattle.brisk_derivtext.specs.Texts.{derivation_text, derivation_lines, text_of_lines}
 

@@ -4,7 +4,10 @@ use Rattle.std.specs.List.{AllByRecursion}
 use Rattle.brisk_text.specs.Values.{Text}
 use Rattle.brisk_derivation.specs.Depths.{steps_depth}
 use Rattle.brisk_derivation.specs.Steps.{Steps}
-use Rattle.brisk_derivtext.specs.Lines.{Format, Format1, Format2, Line, line_text, IsLegal}
+use Rattle.brisk_derivtext.specs.declared.line.Format.{Format}
+use Rattle.brisk_derivtext.specs.declared.line.Format.TheVariants.{Format1, Format2}
+use Rattle.brisk_derivtext.specs.declared.line.Line.{Line}
+use Rattle.brisk_derivtext.specs.Lines.{line_text, IsLegal}
 use Rattle.brisk_lines.specs.Lines.{Reads}
 use Rattle.brisk_derivtext.specs.Parts.{IsText2}
 use Rattle.brisk_derivtext.specs.Parsing.{line_in}

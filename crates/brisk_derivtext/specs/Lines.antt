@@ -4,39 +4,15 @@ use Rattle.std.specs.Fmt.{decimal}
 use Rattle.std.specs.List.{AllByRecursion}
 use Rattle.brisk_lex.specs.Spelled.{IsName}
 use Rattle.brisk_text.specs.Values.{Text}
-use Rattle.brisk_values.specs.Names.{Name}
 use Rattle.brisk_derivation.specs.declared.steps.BasicStep.{BasicStep}
 use Rattle.brisk_derivation.specs.declared.steps.BasicStep.TheVariants as basic
 use Rattle.brisk_derivation.specs.declared.steps.Fact.{Fact}
-
--- the two formats
-pub data Format : Type 0 where
-  Format1 : Format
-  Format2 : Format
-
--- a compound rule with one premise
-pub data Loop : Type 0 where
-  While : (t : Name) (drops : List Fact) → Loop
-  For : (s : Name) (ts : List Name) (drops : List Fact) → Loop
-  Repeat : (t : Name) (drops : List Fact) → Loop
-  Gather : (t : Name) (drops : List Fact) → Loop
-  Pick : (t : Name) (drops : List Fact) → Loop
-
--- A line: the head; a basic step; the first line of a branch, or of another compound rule; the line between the sides of a
--- branch, and the last line of a branch, and of another rule; the end. In format 2 also the first and the last line of a
--- part, and the use of a part.
-pub data Line : Type 0 where
-  Head : (format : Format) → Line
-  Plain : (b : BasicStep) → Line
-  Fork : (t : Name) → Line
-  Enter : (loop : Loop) → Line
-  Else : Line
-  Join : Line
-  Close : Line
-  End : Line
-  Part : (name : Name) → Line
-  EndPart : Line
-  Use : (name : Name) → Line
+use Rattle.brisk_derivtext.specs.declared.line.Format.{Format}
+use Rattle.brisk_derivtext.specs.declared.line.Format.TheVariants.{Format1, Format2}
+use Rattle.brisk_derivtext.specs.declared.line.Loop.{Loop}
+use Rattle.brisk_derivtext.specs.declared.line.Loop.TheVariants.{While, For, Repeat, Gather, Pick}
+use Rattle.brisk_derivtext.specs.declared.line.Line.{Line}
+use Rattle.brisk_derivtext.specs.declared.line.Line.TheVariants.{Head, Plain, Fork, Enter, Else, Join, Close, End, Part, EndPart, Use}
 
 -- a fact that is dropped, with a dot between its names
 abbrev pub fact_text : Fact → Text

@@ -6,7 +6,11 @@ use Rattle.brisk_values.specs.Names.{Name}
 use Rattle.brisk_derivation.specs.declared.steps.BasicStep.{BasicStep}
 use Rattle.brisk_derivation.specs.Depths.{steps_depth}
 use Rattle.brisk_derivation.specs.Steps.{Basic, Branch, Steps, no_steps, ◌▷◌}
-use Rattle.brisk_derivtext.specs.Lines.{Format2, Loop, Line, Head, Plain, Fork, Enter, Else, Join, Close, End, Part, EndPart, Use, IsLegal}
+use Rattle.brisk_derivtext.specs.declared.line.Format.TheVariants.{Format2}
+use Rattle.brisk_derivtext.specs.declared.line.Loop.{Loop}
+use Rattle.brisk_derivtext.specs.declared.line.Line.{Line}
+use Rattle.brisk_derivtext.specs.declared.line.Line.TheVariants.{Head, Plain, Fork, Enter, Else, Join, Close, End, Part, EndPart, Use}
+use Rattle.brisk_derivtext.specs.Lines.{IsLegal}
 use Rattle.brisk_derivtext.specs.Reading.{Ended, part_named, around, ◌then◌}
 use Rattle.brisk_derivtext.specs.Texts.{text_of_lines, lines_of, most_nested, AreFew}
 

@@ -6,7 +6,15 @@ use Rattle.brisk_values.specs.Names.{Name, same_name}
 use Rattle.brisk_derivation.specs.Depths.{steps_depth}
 use Rattle.brisk_derivation.specs.Steps.{Step, Basic, Branch, Steps, no_steps, ◌▷◌}
 use Rattle.brisk_derivation.specs.Steps as tree
-use Rattle.brisk_derivtext.specs.Lines.{Format, Format2, Loop, While, For, Repeat, Gather, Pick, Line, Head, Plain, Fork, Enter, Else, Join, Close, End, Part, EndPart, Use, IsLegal, BeginsWith}
+use Rattle.brisk_derivtext.specs.declared.line.Format.{Format}
+use Rattle.brisk_derivtext.specs.declared.line.Format.TheVariants.{Format2}
+use Rattle.brisk_derivtext.specs.declared.line.Loop.{Loop}
+use Rattle.brisk_derivtext.specs.declared.line.Loop.TheVariants.{While, For, Repeat, Gather, Pick}
+use Rattle.brisk_derivtext.specs.declared.line.Line.{Line}
+use Rattle.brisk_derivtext.specs.declared.line.Line.TheVariants.{Head, Plain, Fork, Enter, Else, Join, Close, End, Part, EndPart, Use}
+use Rattle.brisk_derivtext.specs.declared.open.Open.{Open}
+use Rattle.brisk_derivtext.specs.declared.open.Open.TheVariants.{InLoop, InFirst, InSecond}
+use Rattle.brisk_derivtext.specs.Lines.{IsLegal, BeginsWith}
 use Rattle.brisk_derivtext.specs.Texts.{text_of_lines, lines_of, most_nested, most_bytes}
 
 -- ---- steps
@@ -24,13 +32,6 @@ around (For s ts drops) a = tree.For s ts drops a
 around (Repeat t drops) a = tree.Repeat t drops a
 around (Gather t drops) a = tree.Gather t drops a
 around (Pick t drops) a = tree.Pick t drops a
-
--- A rule that the lines have entered and not closed, with the steps before it in the rule around; of a branch in whose second
--- side the lines are also the first side.
-pub data Open : Type 0 where
-  InLoop : (before : Steps) (loop : Loop) → Open
-  InFirst : (before : Steps) (t : Name) → Open
-  InSecond : (before : Steps) (t : Name) (first : Steps) → Open
 
 -- What lines of steps come to: the rules that are entered, the innermost first, and the steps so far in the innermost.
 pub record Body : Type 0 where

@@ -5,12 +5,26 @@ use Rattle.brisk_text.specs.Values.{Text}
 use Rattle.brisk_derivation.specs.Depths.{steps_depth}
 use Rattle.brisk_derivation.specs.Steps.{Step, Basic, Branch, Steps, no_steps, ◌▷◌}
 use Rattle.brisk_derivation.specs.Steps as tree
-use Rattle.brisk_derivtext.specs.Lines.{Format1, While, For, Repeat, Gather, Pick, Line, Head, Plain, Fork, Enter, Else, Join, Close, End, line_text, IsLegal}
+use Rattle.brisk_derivtext.specs.declared.line.Format.TheVariants.{Format1}
+use Rattle.brisk_derivtext.specs.declared.line.Loop.TheVariants.{While, For, Repeat, Gather, Pick}
+use Rattle.brisk_derivtext.specs.declared.line.Line.{Line}
+use Rattle.brisk_derivtext.specs.declared.line.Line.TheVariants.{Head, Plain, Fork, Enter, Else, Join, Close, End}
+use Rattle.brisk_derivtext.specs.Lines.{line_text, IsLegal}
 
 -- the text of lines, each of which ends with byte 10
 abbrev pub text_of_lines : List Line → Text
 text_of_lines [] = []
 text_of_lines (l ∷ ls) = line_text l ++ 10 ∷ text_of_lines ls
+
+-- the first line of a step
+abbrev pub first_line : Step → Line
+first_line (Basic b) = Plain b
+first_line (Branch t a b) = Fork t
+first_line (tree.While t drops a) = Enter (While t drops)
+first_line (tree.For s ts drops a) = Enter (For s ts drops)
+first_line (tree.Repeat t drops a) = Enter (Repeat t drops)
+first_line (tree.Gather t drops a) = Enter (Gather t drops)
+first_line (tree.Pick t drops a) = Enter (Pick t drops)
 
 -- the lines of a step, and of steps one after another
 abbrev mutual

@@ -7,7 +7,7 @@ use thiserror::Error;
 #[derive(Clone, Copy, Debug, PartialEq, Eq, Error)]
 pub enum AcceptFault {
     /// With the line at which the first failure is told.
-    #[error("a test of the derivation fails")]
+    #[error("the derivation is not valid")]
     Bad(u64, Why),
     #[error("out of memory")]
     NoMemory,

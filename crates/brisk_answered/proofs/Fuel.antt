@@ -4,7 +4,7 @@ use Rattle.std.specs.Prelude.{◌||◌, not, if◌then◌else◌, sum_by}
 use Rattle.std.specs.List.{AllByRecursion}
 use Rattle.std.proofs.lemmas.List.Sums.{sum_by-cons}
 use Rattle.brisk_values.specs.Names.{Name, same_name}
-use Rattle.brisk_values.proofs.Changes.{apart_symm, both_true, name_laws}
+use Rattle.brisk_values.proofs.Changes.{apart_symm, both_true, name_laws, neither}
 use Rattle.brisk_syntax.specs.Counts.{statements}
 use Rattle.brisk_syntax.specs.Typing.{is_among, are_distinct}
 use Rattle.brisk_state.specs.declared.thread.Thread.{Thread}
@@ -14,14 +14,7 @@ use Rattle.brisk_rules.proofs.Threads.{names}
 use Rattle.brisk_search.specs.Passes.{enough}
 use Rattle.brisk_straight.specs.Local.{AreApart}
 use Rattle.brisk_straight.proofs.States.{left_in, left_cons}
-
-neither : (a b : Bool) → (a || b) ≡ false → (a ≡ false) × (b ≡ false)
-neither true b e = cc
-neither false b e = (refl, e)
-
-not_true : (b : Bool) → not b ≡ true → b ≡ false
-not_true true e = cc
-not_true false e = refl
+use Rattle.std.proofs.lemmas.Bool.{not-true}
 
 -- of threads with different names each is found by its name
 abbrev AreFound : List Thread → List Thread → Type 0
@@ -37,7 +30,7 @@ are_found : (ts : List Thread) → are_distinct (names ts) ≡ true → AreFound
 are_found [] d = tt
 are_found (u ∷ us) d =
     let e = both_true (not (is_among (names us) u.name)) (are_distinct (names us)) d in
-    (ap (λ b. if b then Some u else thread_named us u.name) (name_laws.refl u.name), later_found u us us (not_true (is_among (names us) u.name) e.0) (are_found us e.1))
+    (ap (λ b. if b then Some u else thread_named us u.name) (name_laws.refl u.name), later_found u us us (not-true (is_among (names us) u.name) e.0) (are_found us e.1))
 
 -- so the statements that are left can be counted by names
 counted : (all ts : List Thread) → AreFound all ts → sum_by (λ (t : Name). statements (code_in (thread_named all t))) (names ts) ≡ left_in ts

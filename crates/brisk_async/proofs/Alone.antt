@@ -12,6 +12,7 @@ use Rattle.brisk_async.specs.Laws.{OneEvent, Front, plain_event, is_plain, count
 use Rattle.brisk_async.specs.Machine.{State, Effect, View, place_of, effect, effect_in, seen_by, after, step, run}
 use Rattle.brisk_async.proofs.Orders.{two_orders}
 use Rattle.brisk_async.proofs.Runs.{mapped, bound}
+use Rattle.std.proofs.lemmas.Bool.{not-true}
 
 abbrev IsPlainEvent : Option Pid → Option ℕ → Type 0
 IsPlainEvent sender place = (sender ≡ None) × (place ≡ None)
@@ -26,16 +27,12 @@ no_place : (loose : Bool) (k : ℕ) → place_of loose None ≡ Some k → loose
 no_place false k h = refl
 no_place true k h = cc
 
-not_false : (b : Bool) → not b ≡ true → b ≡ false
-not_false true h = cc
-not_false false h = refl
-
 -- at a plain head an event has neither sender nor place
 plain_head : (v : View) (p : Pid) (code : Code) (sender : Option Pid) (place : Option ℕ) (x : Effect) → is_plain v.loose code ≡ true →
     effect v p code sender place ≡ Some x → IsPlainEvent sender place
 plain_head v p done sender place x plain h = cc
 plain_head v p (Recv c xs u ⨾ rest) None place x plain h =
-    let b = bound _ (place_of (v.loose c) place) x h in (refl, strict_place (v.loose c) place b.0 (not_false (v.loose c) plain) b.1)
+    let b = bound _ (place_of (v.loose c) place) x h in (refl, strict_place (v.loose c) place b.0 (not-true (v.loose c) plain) b.1)
 plain_head v p (Recv c xs u ⨾ rest) (Some w) place x plain h = cc
 plain_head v p (RecvAny c xs b s a ⨾ rest) sender place x plain h = cc
 plain_head v p (s ⨾ rest) None None x plain h = (refl, refl)

@@ -2,8 +2,7 @@
 use Rattle.std.proofs.Common.{◌≡◌, ℕ, ◌+◌, ◌⊎◌, inl, inr, Bool, true, false, not, ◌&&◌, ◌==◌, List, [], ◌∷◌, ◌++◌, length, Option, Some, None, refl, sym, ap, subst, ◌∙◌, append_assoc, append-nil, arith}
 use Rattle.std.specs.Prelude.{if◌then◌else◌, Ok, Err}
 use Rattle.std.specs.List.{list_all, AllByRecursion}
-use Rattle.std.proofs.lemmas.Bool.{eqb-true}
-use Rattle.brisk_lex.proofs.Ascii.{both}
+use Rattle.std.proofs.lemmas.Bool.{eqb-true, not-true}
 use Rattle.brisk_lines.specs.Lines.{Reads}
 use Rattle.brisk_lines.specs.Pieces.{differs, Lacks}
 use Rattle.brisk_text.specs.Values.{Text}
@@ -21,6 +20,7 @@ use Rattle.brisk_check.specs.Checking.{Reader, calls_in, calls_for, Walking, aft
 use Rattle.brisk_check.specs.Laws.{IsReader, VerdictIsGiven, FaultIsTold}
 use Rattle.brisk_check.proofs.Calls.{after_append, walk_gives}
 use Rattle.brisk_check.proofs.Kept.{main_calls, Kept, kept_start, next_keeps}
+use Rattle.brisk_values.proofs.Changes.{both_true}
 
 -- ---- a line is read
 
@@ -34,16 +34,12 @@ reads_line read reader l h = by (read (line_text l)) (reader (line_text l))
 -- ---- bytes of a line
 
 other_byte : (x : ℕ) → differs 10 x ≡ true → (x == 10) ≡ false
-other_byte x e = by (x == 10) e
-  where
-    by : (t : Bool) → not t ≡ true → t ≡ false
-    by true k = absurd (let w = k in cc)
-    by false k = refl
+other_byte x e = not-true (x == 10) e
 
 feed_rest : (read : Reader) (c : Checking) (t more : Text) → Lacks 10 t → feed read c (t ++ more) ≡ feed read (record c { rest = c.rest ++ t }) more
 feed_rest read c [] more h = ap (λ z. feed read (record c { rest = z }) more) (sym (append-nil c.rest))
 feed_rest read c (x ∷ t) more h =
-    let two = both (differs 10 x) (list_all (differs 10) t) h in
+    let two = both_true (differs 10 x) (list_all (differs 10) t) h in
     ap (λ z. feed read (if z then taken c c.fault (read c.rest) else record c { rest = c.rest ++ x ∷ [] }) (t ++ more)) (other_byte x two.0)
     ∙ feed_rest read (record c { rest = c.rest ++ x ∷ [] }) t more two.1
     ∙ ap (λ z. feed read (record c { rest = z }) more) (append_assoc c.rest (x ∷ []) t)

@@ -15,6 +15,8 @@ use Rattle.brisk_derivtext.specs.Texts.{lines_of, most_nested}
 use Rattle.brisk_derivtext.proofs.Putting.{grows, lines_then}
 use Rattle.brisk_check.specs.Checking.{calls_in, lines_if, stands_for, calls_for}
 use Rattle.brisk_check.proofs.Calls.{calls_append}
+use Rattle.std.proofs.lemmas.Bool.{not-true}
+use Rattle.brisk_values.proofs.Changes.{both_true}
 
 -- the calls of the main steps so far
 abbrev pub main_calls : Reading → List Call
@@ -94,10 +96,6 @@ none_entered : (os : List Open) → is_empty os ≡ true → os ≡ []
 none_entered [] e = refl
 none_entered (o ∷ os) e = absurd (no_true e)
 
-both_true : (a b : Bool) → (a && b) ≡ true → (a ≡ true) × (b ≡ true)
-both_true true b e = (refl, e)
-both_true false b e = absurd (no_true e)
-
 end_keeps : (r v : Reading) (t : Bool) → Kept r → (is_none r.part && is_whole r.body) ≡ t → (if t then Some (record r { ended = true }) else None) ≡ Some v → Keeps r End v
 end_keeps r v false h k e = absurd (no_some e)
 end_keeps r v true h k e =
@@ -109,10 +107,6 @@ end_keeps r v true h k e =
 
 begun_calls : (r : Reading) → Kept r → is_none r.part ≡ true → r.main ≡ false → main_calls r ≡ []
 begun_calls r h p m = ap (λ t. if t then calls_in (lines_so_far r.body) else []) p ∙ ap calls_in (h.unbegun m p)
-
-not_so : (b : Bool) → not b ≡ true → b ≡ false
-not_so false e = refl
-not_so true e = absurd (no_true e)
 
 part_keeps : (r v : Reading) (n : Name) (t : Bool) → r.ended ≡ false → Kept r → (is_none r.part && not r.main && is_none (part_named n r.parts)) ≡ t → (if t then Some (record r { part = Some n; body = empty }) else None) ≡ Some v → Keeps r (Part n) v
 part_keeps r v n false z h k e = absurd (no_some e)

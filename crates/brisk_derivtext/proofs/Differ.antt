@@ -5,11 +5,10 @@ use Rattle.std.specs.Fmt.{decimal}
 use Rattle.std.specs.List.{list_all, AllByRecursion}
 use Rattle.std.proofs.lemmas.List.Folds.{list_all-append}
 use Rattle.brisk_lex.specs.Spelled.{IsName}
-use Rattle.brisk_lex.proofs.Ascii.{both}
 use Rattle.brisk_lex.proofs.Printed.{is_plain}
 use Rattle.brisk_text.specs.Values.{Text}
 use Rattle.brisk_values.specs.Names.{Name, same_name}
-use Rattle.brisk_values.proofs.Changes.{name_laws}
+use Rattle.brisk_values.proofs.Changes.{name_laws, both_true}
 use Rattle.brisk_derivation.specs.declared.steps.BasicStep.{BasicStep}
 use Rattle.brisk_derivation.specs.declared.steps.BasicStep.TheVariants as basic
 use Rattle.brisk_derivation.specs.declared.steps.Fact.{Fact}
@@ -150,8 +149,8 @@ fact_is_no_drop f e = holds_it 46 f.at f.variable (subst (Lacks 46) (sym e) refl
   where
     holds_it : (c : ℕ) (a b : Text) → Lacks c (a ++ c ∷ b) → ⊥
     holds_it c a b h =
-        let k = both (list_all (differs c) a) (list_all (differs c) (c ∷ b)) (sym (list_all-append (differs c) a (c ∷ b)) ∙ h) in
-        clash c c (both (differs c c) (list_all (differs c) b) k.1).0 refl
+        let k = both_true (list_all (differs c) a) (list_all (differs c) (c ∷ b)) (sym (list_all-append (differs c) a (c ∷ b)) ∙ h) in
+        clash c c (both_true (differs c c) (list_all (differs c) b) k.1).0 refl
 
 -- so the word `drop` behind owners isn't among facts
 no_drop : (F G : List Fact) (ts : List Name) → map fact_text F ≡ ts ++ drop_words G → ⊥

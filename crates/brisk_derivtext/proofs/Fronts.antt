@@ -5,7 +5,6 @@ use Rattle.std.specs.Prelude.{codes}
 use Rattle.std.specs.Option.{MatchOption}
 use Rattle.std.specs.List.{list_all, AllByRecursion}
 use Rattle.std.proofs.lemmas.List.Folds.{list_all-append}
-use Rattle.brisk_lex.proofs.Ascii.{both}
 use Rattle.std.specs.Fmt.{decimal}
 use Rattle.brisk_lex.specs.Spelled.{IsName}
 use Rattle.brisk_lines.specs.Pieces.{differs, Lacks, Begins, IsCut}
@@ -13,7 +12,7 @@ use Rattle.brisk_lines.proofs.Cuts.{clash, cut_once}
 use Rattle.brisk_lines.proofs.Plain.{decimal_lacks, name_lacks}
 use Rattle.brisk_text.specs.Values.{Text}
 use Rattle.brisk_values.specs.Names.{Name, same_name}
-use Rattle.brisk_values.proofs.Changes.{name_laws, exact_name}
+use Rattle.brisk_values.proofs.Changes.{name_laws, exact_name, both_true}
 use Rattle.brisk_derivation.specs.declared.steps.Fact.{Fact}
 use Rattle.brisk_derivtext.specs.Lines.{drop_words, fact_text, spaced, IsLegalFact}
 use Rattle.brisk_derivtext.specs.Pieces.{facts_text, fill_text, for_text, message_text, owners_text, rule_text, AreNames, AreOwners, BeginsWithFact, BeginsWithName, BeginsWithWord, IsFill, IsFor, IsMessage, IsRule, NoNameFollows}
@@ -146,8 +145,8 @@ fact_is_no_name f h = dot 46 f.at f.variable (name_lacks 46 refl (omega arith) (
   where
     dot : (c : ℕ) (a b : Text) → Lacks c (a ++ c ∷ b) → ⊥
     dot c a b k =
-        let two = both (list_all (differs c) a) (list_all (differs c) (c ∷ b)) (sym (list_all-append (differs c) a (c ∷ b)) ∙ k) in
-        clash c c (both (differs c c) (list_all (differs c) b) two.1).0 refl
+        let two = both_true (list_all (differs c) a) (list_all (differs c) (c ∷ b)) (sym (list_all-append (differs c) a (c ∷ b)) ∙ k) in
+        clash c c (both_true (differs c c) (list_all (differs c) b) two.1).0 refl
 
 no_name_in_facts : (F : List Fact) → AllByRecursion IsLegalFact F → NoNameFollows (facts_text F)
 no_name_in_facts [] h = λ t more k. some_bytes (sym k.whole)

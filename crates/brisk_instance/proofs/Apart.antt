@@ -2,7 +2,7 @@
 use Rattle.std.proofs.Common.{◌≡◌, ℕ, suc, Bool, true, false, List, [], ◌∷◌, ◌++◌, map, Option, Some, None, refl, ap, ◌∙◌, arith, nat_eq}
 use Rattle.std.specs.Prelude.{◌&&◌, ◌||◌, not, if◌then◌else◌, nat_lt}
 use Rattle.std.specs.List.{AllByRecursion}
-use Rattle.std.proofs.lemmas.Bool.{le-ltb, lt-ltb, ltb-false, ltb-true, eqb-false, eqb-true}
+use Rattle.std.proofs.lemmas.Bool.{le-ltb, lt-ltb, ltb-false, ltb-true, eqb-false, eqb-true, not-true}
 use Rattle.brisk_values.specs.Names.{Name, same_name}
 use Rattle.brisk_values.proofs.Changes.{both_true, exact_name}
 use Rattle.brisk_syntax.specs.declared.program.Program.{Program}
@@ -11,10 +11,7 @@ use Rattle.brisk_syntax.specs.Roles.{RoleText}
 use Rattle.brisk_syntax.specs.Typing.{are_distinct, is_among}
 use Rattle.brisk_syntax.specs.WellTyped.{IsProgramWellTyped, IsRoleWellTyped}
 use Rattle.brisk_instance.specs.Given.{AreApart}
-
-distinct_later : (xs ys : List Name) → are_distinct (xs ++ ys) ≡ true → are_distinct ys ≡ true
-distinct_later [] ys e = e
-distinct_later (x ∷ xs) ys e = distinct_later xs ys (both_true (not (is_among (xs ++ ys) x)) (are_distinct (xs ++ ys)) e).1
+use Rattle.brisk_syntax.proofs.Codes.{distinct_later}
 
 -- the names of the roles
 abbrev pub role_names : List RoleText → List Name
@@ -24,10 +21,6 @@ role_names roles = map (λ (r : RoleText). r.name) roles
 roles_differ : (P : Program) → IsProgramWellTyped P → are_distinct (role_names P.roles) ≡ true
 roles_differ P typed = distinct_later (map (λ e. e.name) P.enums ++ map (λ c. c.name) P.channels) (role_names P.roles) typed.names
 
-pub not_true : (b : Bool) → not b ≡ true → b ≡ false
-not_true true e = cc
-not_true false e = refl
-
 none_named : (roles : List RoleText) (u : Name) → is_among (role_names roles) u ≡ false → role_named roles u ≡ None
 none_named [] u e = refl
 none_named (r ∷ rs) u e =
@@ -36,7 +29,7 @@ none_named (r ∷ rs) u e =
 -- no later role has the name of the first one
 pub later_differ : (r : RoleText) (rs : List RoleText) → are_distinct (role_names (r ∷ rs)) ≡ true → (n : Name) → same_name n r.name ≡ true → role_named rs n ≡ None
 later_differ r rs d n e =
-    none_named rs n (ap (is_among (role_names rs)) (exact_name n r.name e) ∙ not_true _ (both_true (not (is_among (role_names rs) r.name)) (are_distinct (role_names rs)) d).0)
+    none_named rs n (ap (is_among (role_names rs)) (exact_name n r.name e) ∙ not-true _ (both_true (not (is_among (role_names rs) r.name)) (are_distinct (role_names rs)) d).0)
 
 pub later_distinct : (r : RoleText) (rs : List RoleText) → are_distinct (role_names (r ∷ rs)) ≡ true → are_distinct (role_names rs) ≡ true
 later_distinct r rs d = (both_true (not (is_among (role_names rs) r.name)) (are_distinct (role_names rs)) d).1

@@ -14,7 +14,7 @@ use Rattle.brisk_syntax.specs.Typing.{are_distinct, is_among}
 use Rattle.brisk_instance.specs.Given.{AreApart, all_inputs, inputs_at, members}
 use Rattle.brisk_instance.specs.Walks.{Place, role_inputs}
 use Rattle.brisk_instance.proofs.Alls.{all_append, all_flat, all_members, all_weaken, members_from}
-use Rattle.brisk_instance.proofs.Apart.{not_true}
+use Rattle.std.proofs.lemmas.Bool.{not-true}
 
 -- the item's key is none of these
 abbrev pub IsNone : {A K : Type 0} → (A → K) → List A → K → Type 0
@@ -43,7 +43,7 @@ pub names_differ : {A : Type 0} (key : A → Name) (xs : List A) → are_distinc
 names_differ key [] h = tt
 names_differ key (x ∷ xs) h =
     let e = both_true (not (is_among (map key xs) (key x))) (are_distinct (map key xs)) h in
-    (none_named key (key x) xs (not_true _ e.0), names_differ key xs e.1)
+    (none_named key (key x) xs (not-true _ e.0), names_differ key xs e.1)
 
 -- a key that is not in the list of the keys is the key of no item
 none_listed : {A K : Type 0} (key : A → K) (k : K) (xs : List A) → IsNone (λ k. k) (map key xs) k → IsNone key xs k

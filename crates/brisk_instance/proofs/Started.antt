@@ -19,7 +19,8 @@ use Rattle.brisk_syntax.specs.Typing.{are_distinct, is_among}
 use Rattle.brisk_syntax.specs.Value.{or_false, size_in}
 use Rattle.brisk_instance.specs.Begun.{declared_value, with_members, with_roles, with_values}
 use Rattle.brisk_instance.specs.Given.{AreApart, set_names}
-use Rattle.brisk_instance.proofs.Apart.{below_next, later_differ, later_distinct, none_below, not_true, or_else, or_none, role_names}
+use Rattle.brisk_instance.proofs.Apart.{below_next, later_differ, later_distinct, none_below, or_else, or_none, role_names}
+use Rattle.std.proofs.lemmas.Bool.{not-true}
 
 if_same : {X : Type 0} (b : Bool) (o : X) → o ≡ (if b then o else o)
 if_same true o = refl
@@ -62,7 +63,7 @@ module _ (sizes : Name → ℕ) (given : Entries) where
       later = (both_true (not (is_among (map variable_of ds) (variable_of e))) (are_distinct (map variable_of ds)) d).1
 
       absent : same_name y (variable_of e) ≡ true → first_value inst p ds y ≡ None
-      absent t = none_first p ds y (ap (is_among (map variable_of ds)) (exact_name y (variable_of e) t) ∙ not_true _ (both_true (not (is_among (map variable_of ds) (variable_of e))) (are_distinct (map variable_of ds)) d).0)
+      absent t = none_first p ds y (ap (is_among (map variable_of ds)) (exact_name y (variable_of e) t) ∙ not-true _ (both_true (not (is_among (map variable_of ds) (variable_of e))) (are_distinct (map variable_of ds)) d).0)
 
       joined : (a b : Bool) → same_name y (variable_of e) ≡ b →
           (if a then or_else (first_value inst p ds y) (cond (a && b) (Some (declared_value given p e)) (value_in m q y)) else cond (a && b) (Some (declared_value given p e)) (value_in m q y))
@@ -147,7 +148,7 @@ set_sized i (r ∷ rs) s d h =
       | true ↦ λ e.
           elim r.many as (λ b. (is_among (if b then r.name ∷ set_names rs else set_names rs) s ≡ false → i.size s ≡ 0) → i.size s ≡ (if b then i.size r.name else 0)) [
             | true ↦ λ g. ap i.size (exact_name s r.name e)
-            | false ↦ λ g. g (no_set rs s (ap (is_among (role_names rs)) (exact_name s r.name e) ∙ not_true _ (both_true (not (is_among (role_names rs) r.name)) (are_distinct (role_names rs)) d).0))
+            | false ↦ λ g. g (no_set rs s (ap (is_among (role_names rs)) (exact_name s r.name e) ∙ not-true _ (both_true (not (is_among (role_names rs) r.name)) (are_distinct (role_names rs)) d).0))
           ] h
       | false ↦ λ e. set_sized i rs s (later_distinct r rs d) (
           elim r.many as (λ b. (is_among (if b then r.name ∷ set_names rs else set_names rs) s ≡ false → i.size s ≡ 0) → is_among (set_names rs) s ≡ false → i.size s ≡ 0) [

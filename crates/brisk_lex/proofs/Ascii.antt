@@ -7,15 +7,12 @@ use Rattle.ucd_table.specs.Rows.{in_ranges}
 use Rattle.ucd_derived.specs.XidStartRanges.{xid_start_ranges}
 use Rattle.ucd_derived.specs.XidContinueRanges.{xid_continue_ranges}
 use Rattle.brisk_lex.specs.Tokens.{starts_name}
+use Rattle.brisk_values.proofs.Changes.{both_true}
 
 -- the two tests agree on each number below n
 abbrev agree : (ℕ → Bool) → (ℕ → Bool) → ℕ → Bool
 agree p q zero = true
 agree p q (suc n) = (if p n then q n else not (q n)) && agree p q n
-
-pub both : (a b : Bool) → (a && b) ≡ true → (a ≡ true) × (b ≡ true)
-both true b h = (refl, h)
-both false b h = absurd (let k : false ≡ true = h in cc)
 
 pub negated : (a : Bool) → not a ≡ true → a ≡ false
 negated true h = sym h
@@ -30,7 +27,7 @@ same false false h = refl
 agree_at : (p q : ℕ → Bool) (n c : ℕ) → agree p q n ≡ true → c < n → p c ≡ q c
 agree_at p q zero c h l = absurd (omega arith)
 agree_at p q (suc n) c h l =
-    let b = both (if p n then q n else not (q n)) (agree p q n) h in
+    let b = both_true (if p n then q n else not (q n)) (agree p q n) h in
     elim (leb_tells n c) as (λ _. p c ≡ q c) [
       | inl a ↦ let e : c ≡ n = omega (arith, a.1) in ap p e ∙ same (p n) (q n) b.0 ∙ ap q (sym e)
       | inr a ↦ agree_at p q n c b.1 a.1

@@ -17,9 +17,10 @@ use Rattle.brisk_lex.specs.Vocabulary.{word, double_mark, single_mark}
 use Rattle.brisk_lex.specs.Tokens.{Text, is_space, is_comment, starts_name, not_newline, first, number, Blank, Takes, Fails, token_cut, word_or_name, name_token, name_cut, number_cut, mark_or, mark_cut, cut}
 use Rattle.brisk_lex.specs.Spelled.{mark_text, is_identifier, is_numeral}
 use Rattle.brisk_lex.specs.Longest.{IsTokenText, SpellingsAreTexts, IsLongest, IsCutOff, LongestIsCut}
-use Rattle.brisk_lex.proofs.Ascii.{both, starts_ascii}
+use Rattle.brisk_lex.proofs.Ascii.{starts_ascii}
 use Rattle.brisk_lex.proofs.Printed.{Ends, begins_name, number_in_front, number_of, word_is}
 use Rattle.brisk_lex.proofs.Spellings.{begins_mark, double_text, double_more, single_text, word_spelled, mark_front}
+use Rattle.brisk_values.proofs.Changes.{both_true}
 
 pub spellings_are_texts : SpellingsAreTexts
 spellings_are_texts (t.Word w) cs e = inl (ap is_identifier e ∙ (word_is w).0)
@@ -54,8 +55,8 @@ run_ends p (c ∷ cs) = ends_if p c cs (p c) refl (run_ends p cs)
 -- ---- no front is a token
 
 no_token : (c : ℕ) (cs : Text) → starts_name c ≡ false → is_ascii_digit c ≡ false → ((m : Mark) → c ∷ cs ≡ mark_text m → ⊥) → IsTokenText (c ∷ cs) → ⊥
-no_token c cs s d none (inl h) = let b = both (starts_name c) (list_all is_xid_continue cs) h in let wrong : true ≡ false = sym b.0 ∙ s in cc
-no_token c cs s d none (inr (inl h)) = let b = both (is_ascii_digit c) (list_all is_ascii_digit cs) h in let wrong : true ≡ false = sym b.0 ∙ d in cc
+no_token c cs s d none (inl h) = let b = both_true (starts_name c) (list_all is_xid_continue cs) h in let wrong : true ≡ false = sym b.0 ∙ s in cc
+no_token c cs s d none (inr (inl h)) = let b = both_true (is_ascii_digit c) (list_all is_ascii_digit cs) h in let wrong : true ≡ false = sym b.0 ∙ d in cc
 no_token c cs s d none (inr (inr m)) = none m.0 m.1
 
 not_true : (b : Bool) → b ≡ true → b ≡ false → ⊥
@@ -67,8 +68,8 @@ name_is_text : (c : ℕ) (cs : Text) → starts_name c ≡ true → is_identifie
 name_is_text c cs starts = rw (starts, run_passes is_xid_continue cs) refl
 
 no_longer_name : (c : ℕ) (cs : Text) → starts_name c ≡ true → (j : ℕ) → prefix_len is_xid_continue cs < j → j ≤ length cs → IsTokenText (c ∷ take j cs) → ⊥
-no_longer_name c cs starts j more l (inl h) = past_run is_xid_continue cs j more l (both (starts_name c) (list_all is_xid_continue (take j cs)) h).1
-no_longer_name c cs starts j more l (inr (inl h)) = not_true (is_ascii_digit c) (both (is_ascii_digit c) (list_all is_ascii_digit (take j cs)) h).0 (begins_name c starts).2
+no_longer_name c cs starts j more l (inl h) = past_run is_xid_continue cs j more l (both_true (starts_name c) (list_all is_xid_continue (take j cs)) h).1
+no_longer_name c cs starts j more l (inr (inl h)) = not_true (is_ascii_digit c) (both_true (is_ascii_digit c) (list_all is_ascii_digit (take j cs)) h).0 (begins_name c starts).2
 no_longer_name c cs starts j more l (inr (inr m)) = not_true (starts_name c) starts (begins_mark c (take j cs) m.0 m.1).no_name
 
 longest_name : (c : ℕ) (cs : Text) → starts_name c ≡ true → IsLongest c cs (prefix_len is_xid_continue cs)
@@ -97,8 +98,8 @@ digit_begins_no_name : (c : ℕ) → is_ascii_digit c ≡ true → starts_name c
 digit_begins_no_name c h = starts_ascii c (grind (arith, nat_tests)) ∙ grind (arith, nat_tests)
 
 no_longer_number : (c : ℕ) (cs : Text) → is_ascii_digit c ≡ true → (j : ℕ) → prefix_len is_ascii_digit cs < j → j ≤ length cs → IsTokenText (c ∷ take j cs) → ⊥
-no_longer_number c cs digit j more l (inl h) = not_true (starts_name c) (both (starts_name c) (list_all is_xid_continue (take j cs)) h).0 (digit_begins_no_name c digit)
-no_longer_number c cs digit j more l (inr (inl h)) = past_run is_ascii_digit cs j more l (both (is_ascii_digit c) (list_all is_ascii_digit (take j cs)) h).1
+no_longer_number c cs digit j more l (inl h) = not_true (starts_name c) (both_true (starts_name c) (list_all is_xid_continue (take j cs)) h).0 (digit_begins_no_name c digit)
+no_longer_number c cs digit j more l (inr (inl h)) = past_run is_ascii_digit cs j more l (both_true (is_ascii_digit c) (list_all is_ascii_digit (take j cs)) h).1
 no_longer_number c cs digit j more l (inr (inr m)) = not_true (is_ascii_digit c) digit (begins_mark c (take j cs) m.0 m.1).no_digit
 
 longest_number : (c : ℕ) (cs : Text) → is_ascii_digit c ≡ true → IsLongest c cs (prefix_len is_ascii_digit cs)
@@ -134,7 +135,7 @@ line_ends c h = grind (arith, nat_tests)
 commented : (c : ℕ) (cs : Text) → is_comment c cs ≡ true → IsCutOff c cs (Blank (prefix_len not_newline cs))
 commented c cs strokes =
     let n : ℕ = prefix_len not_newline cs in
-    let stroke : (c == 47) ≡ true = (both (c == 47) (first cs == 47) strokes).0 in
+    let stroke : (c == 47) ≡ true = (both_true (c == 47) (first cs == 47) strokes).0 in
     let no_name : starts_name c ≡ false = starts_ascii c (grind (arith, nat_tests)) ∙ grind (arith, nat_tests) in
     let no_digit : is_ascii_digit c ≡ false = grind (arith, nat_tests) in (
       inr (record {

@@ -24,8 +24,9 @@ use Rattle.brisk_lex.specs.declared.fault.LexFault.{LexFault}
 use Rattle.brisk_lex.specs.Vocabulary.{word, double_mark, single_mark}
 use Rattle.brisk_lex.specs.Tokens.{Text, is_space, starts_name, first, number, cut, Takes, token_cut, name_cut, name_token, number_cut, mark_cut, placed, with_front, lexed, tokens, tokens_of}
 use Rattle.brisk_lex.specs.Spelled.{word_text, mark_text, is_identifier, is_numeral, IsName}
-use Rattle.brisk_lex.proofs.Ascii.{both, negated, is_ascii_start, starts_ascii, continues_ascii}
+use Rattle.brisk_lex.proofs.Ascii.{negated, is_ascii_start, starts_ascii, continues_ascii}
 use Rattle.brisk_lex.proofs.Steps.{skips, whole_text}
+use Rattle.brisk_values.proofs.Changes.{both_true}
 
 -- ---- reading without places
 
@@ -60,7 +61,7 @@ pub run : (p : ℕ → Bool) (cs rest : Text) → list_all p cs ≡ true → End
 run p [] [] h e = refl
 run p [] (d ∷ rest) h e = rw e refl
 run p (c ∷ cs) rest h e =
-    let b = both (p c) (list_all p cs) h in
+    let b = both_true (p c) (list_all p cs) h in
     let k : 1 + length cs ≡ suc (length cs) = omega arith in
     rw (b.0, run p cs rest b.1 e) k
 
@@ -96,7 +97,7 @@ begins_name c h =
 identifier_cut : (c : ℕ) (cs rest : Text) → is_identifier (c ∷ cs) ≡ true → Ends is_xid_continue rest → cut c (cs ++ rest) ≡ token_cut (name_token (encode_utf8_all (c ∷ cs))) (length cs)
 unfolding cut name_cut
 identifier_cut c cs rest h e =
-    let b = both (starts_name c) (list_all is_xid_continue cs) h in
+    let b = both_true (starts_name c) (list_all is_xid_continue cs) h in
     let plain = begins_name c b.0 in
     rw (plain.0, plain.1, plain.2, b.0, run is_xid_continue cs rest b.1 e, take_at cs rest (length cs) refl) refl
 
@@ -157,7 +158,7 @@ number_ends v (c ∷ rest) e = rw e refl
 pub number_in_front : (v : ℕ) (cs rest : Text) → list_all is_ascii_digit cs ≡ true → Ends is_ascii_digit rest → number v (cs ++ rest) ≡ number v cs
 number_in_front v [] rest h e = number_ends v rest e
 number_in_front v (c ∷ cs) rest h e =
-    let b = both (is_ascii_digit c) (list_all is_ascii_digit cs) h in
+    let b = both_true (is_ascii_digit c) (list_all is_ascii_digit cs) h in
     rw b.0 (number_in_front (10 * v + (c - 48)) cs rest b.1 e)
 
 pub number_of : (c : ℕ) (cs : Text) → is_ascii_digit c ≡ true → number 0 (c ∷ cs) ≡ number (c - 48) cs
@@ -166,7 +167,7 @@ number_of c cs h = let k : 10 * 0 + (c - 48) ≡ c - 48 = omega arith in rw (h, 
 numeral_cut : (c v : ℕ) (cs rest : Text) → is_numeral (c ∷ cs) ≡ true → number 0 (c ∷ cs) ≡ v → v ≤ 2 ^ 63 → Ends is_ascii_digit rest → cut c (cs ++ rest) ≡ Takes (t.Num v) (length cs)
 unfolding cut number_cut
 numeral_cut c v cs rest h is fits e =
-    let b = both (is_ascii_digit c) (list_all is_ascii_digit cs) h in
+    let b = both_true (is_ascii_digit c) (list_all is_ascii_digit cs) h in
     let plain = begins_number c b.0 in
     let value : number (c - 48) (cs ++ rest) ≡ v = number_in_front (c - 48) cs rest b.1 e ∙ sym (number_of c cs b.0) ∙ is in
     let few : nat_lt (2 ^ 63) v ≡ false = grind (arith, nat_tests) in
@@ -180,12 +181,12 @@ numeral_read n v (c ∷ cs) rest h is fits e = token_read n c cs rest (t.Num v) 
 number_push : (v d : ℕ) (cs : Text) → list_all is_ascii_digit cs ≡ true → is_ascii_digit d ≡ true → number v (cs ++ d ∷ []) ≡ 10 * number v cs + (d - 48)
 number_push v d [] h e = rw e refl
 number_push v d (c ∷ cs) h e =
-    let b = both (is_ascii_digit c) (list_all is_ascii_digit cs) h in
+    let b = both_true (is_ascii_digit c) (list_all is_ascii_digit cs) h in
     rw b.0 (number_push (10 * v + (c - 48)) d cs b.1 e)
 
 digits_push : (d : ℕ) (cs : Text) → list_all is_ascii_digit cs ≡ true → is_ascii_digit d ≡ true → list_all is_ascii_digit (cs ++ d ∷ []) ≡ true
 digits_push d [] h e = rw e refl
-digits_push d (c ∷ cs) h e = let b = both (is_ascii_digit c) (list_all is_ascii_digit cs) h in rw b.0 (digits_push d cs b.1 e)
+digits_push d (c ∷ cs) h e = let b = both_true (is_ascii_digit c) (list_all is_ascii_digit cs) h in rw b.0 (digits_push d cs b.1 e)
 
 numeral_push : (d : ℕ) (cs : Text) → is_numeral cs ≡ true → is_ascii_digit d ≡ true → is_numeral (cs ++ d ∷ []) ≡ true
 numeral_push d [] h e = cc
@@ -250,7 +251,7 @@ is_plain c = nat_lt c 128 && not (is_ascii_alphanumeric c || c == 95)
 
 pub plain_ends : (c : ℕ) → is_plain c ≡ true → is_xid_continue c ≡ false
 plain_ends c h =
-    let b = both (nat_lt c 128) (not (is_ascii_alphanumeric c || c == 95)) h in
+    let b = both_true (nat_lt c 128) (not (is_ascii_alphanumeric c || c == 95)) h in
     continues_ascii c (grind (arith, nat_tests, b.0)) ∙ negated (is_ascii_alphanumeric c || c == 95) b.1
 
 -- what can't go on with a name can't go on with a number

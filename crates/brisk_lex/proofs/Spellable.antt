@@ -11,9 +11,9 @@ use Rattle.brisk_lex.specs.declared.fault.LexFault.{LexFault}
 use Rattle.brisk_lex.specs.Tokens.{Text, Cut, Blank, Takes, Fails, cut, place, placed, with_front, goes_on, lexed, then_broken, tokens}
 use Rattle.brisk_lex.specs.Spelled.{IsSpelled, IsName, CanBeSpelled, AllCanBeSpelled}
 use Rattle.brisk_lex.specs.Longest.{IsCutOff}
-use Rattle.brisk_lex.proofs.Ascii.{both}
 use Rattle.brisk_lex.proofs.Broken.{valid_front}
 use Rattle.brisk_lex.proofs.Cutting.{longest_is_cut}
+use Rattle.brisk_values.proofs.Changes.{both_true}
 
 pub name_of_spelled : (x : List ℕ) → CanBeSpelled (t.Name x) → IsName x
 name_of_spelled x h =
@@ -32,7 +32,7 @@ Spelt (Err e) = Unit {0}
 scalars_take : (k : ℕ) (cs : Text) → all_scalars cs ≡ true → all_scalars (take k cs) ≡ true
 scalars_take zero cs h = refl
 scalars_take (suc k) [] h = refl
-scalars_take (suc k) (c ∷ cs) h = let b = both (scalar c) (all_scalars cs) h in rw (b.0, scalars_take k cs b.1) refl
+scalars_take (suc k) (c ∷ cs) h = let b = both_true (scalar c) (all_scalars cs) h in rw (b.0, scalars_take k cs b.1) refl
 
 one_more : (t : Token) (at : ℕ) (r : Result (List Placed) LexFault) → CanBeSpelled t → Spelt r → Spelt (with_front (placed t at ∷ []) r)
 one_more t at (Ok ts) h rest = (h, rest)
@@ -41,15 +41,15 @@ one_more t at (Err e) h rest = tt
 step : (c : ℕ) (cs : Text) (x : Cut) (at : ℕ) (rest : ℕ → Result (List Placed) LexFault) → all_scalars (c ∷ cs) ≡ true → IsCutOff c cs x → ((k : ℕ) → Spelt (rest k)) → Spelt (goes_on x at rest)
 step c cs (Blank k) at rest s is h = h k
 step c cs (Takes t k) at rest s is h =
-    let b = both (scalar c) (all_scalars cs) s in
+    let b = both_true (scalar c) (all_scalars cs) s in
     let front : all_scalars (c ∷ take k cs) ≡ true = rw (b.0, scalars_take k cs b.1) refl in
     one_more t at (rest k) (c ∷ take k cs, front, is.0) (h k)
 step c cs (Fails w) at rest s is h = tt
 
 read_spelt : (n k : ℕ) (cs : Text) → all_scalars cs ≡ true → Spelt (lexed n k cs)
 read_spelt n k [] s = tt
-read_spelt n (suc k) (c ∷ cs) s = read_spelt n k cs (both (scalar c) (all_scalars cs) s).1
-read_spelt n zero (c ∷ cs) s = step c cs (cut c cs) (place n (c ∷ cs)) (λ k. lexed n k cs) s (longest_is_cut c cs) (λ k. read_spelt n k cs (both (scalar c) (all_scalars cs) s).1)
+read_spelt n (suc k) (c ∷ cs) s = read_spelt n k cs (both_true (scalar c) (all_scalars cs) s).1
+read_spelt n zero (c ∷ cs) s = step c cs (cut c cs) (place n (c ∷ cs)) (λ k. lexed n k cs) s (longest_is_cut c cs) (λ k. read_spelt n k cs (both_true (scalar c) (all_scalars cs) s).1)
 
 then_spelt : (bs : List ℕ) (n : ℕ) (r : Result (List Placed) LexFault) (b : Bool) → (n == length bs) ≡ b → Spelt r → Spelt (then_broken bs n r)
 then_spelt bs n (Err e) b is h = tt

@@ -17,7 +17,8 @@ use Rattle.brisk_lex.specs.declared.token.Word.TheVariants as w
 use Rattle.brisk_lex.specs.Vocabulary.{find, words, double_marks, single_marks, word, double_mark, single_mark}
 use Rattle.brisk_lex.specs.Tokens.{Text, is_space, starts_name, first}
 use Rattle.brisk_lex.specs.Spelled.{word_text, mark_text}
-use Rattle.brisk_lex.proofs.Ascii.{both, negated}
+use Rattle.brisk_lex.proofs.Ascii.{negated}
+use Rattle.brisk_values.proofs.Changes.{both_true}
 
 -- ---- what a table has is spelled so
 
@@ -30,7 +31,7 @@ found_if f s x table cs a false e spelled rest h = rest h
 found : {A : Type 0} (f : A → Text) (table : List (Text × A)) → list_all (λ e. bytes_eq e.0 (f e.1)) table ≡ true → (cs : Text) (a : A) → find table cs ≡ Some a → cs ≡ f a
 found f [] all cs a h = absurd (let k = h in cc)
 found f (e ∷ table) all cs a h =
-    let b = both (bytes_eq e.0 (f e.1)) (list_all (λ e. bytes_eq e.0 (f e.1)) table) all in
+    let b = both_true (bytes_eq e.0 (f e.1)) (list_all (λ e. bytes_eq e.0 (f e.1)) table) all in
     found_if f e.0 e.1 table cs a (bytes_eq e.0 cs) refl ((bytes_eq-Decides e.0 (f e.1)).0 b.0) (found f table b.1 cs a) h
 
 pub double_text : (c d : ℕ) (m : Mark) → double_mark c d ≡ Some m → c ∷ d ∷ [] ≡ mark_text m
@@ -115,9 +116,9 @@ mark_start m.Bang = refl
 pub begins_mark : (c : ℕ) (cs : Text) (m : Mark) → c ∷ cs ≡ mark_text m → BeginsMark c
 begins_mark c cs m e =
     let is : is_mark_start c ≡ true = ap is_mark_start (ap first e) ∙ mark_start m in
-    let a = both (not (starts_name c)) (not (is_ascii_digit c) && (not (is_space c) && not (c == 47))) is in
-    let b = both (not (is_ascii_digit c)) (not (is_space c) && not (c == 47)) a.1 in
-    let d = both (not (is_space c)) (not (c == 47)) b.1 in
+    let a = both_true (not (starts_name c)) (not (is_ascii_digit c) && (not (is_space c) && not (c == 47))) is in
+    let b = both_true (not (is_ascii_digit c)) (not (is_space c) && not (c == 47)) a.1 in
+    let d = both_true (not (is_space c)) (not (c == 47)) b.1 in
     record { no_name = negated (starts_name c) a.0; no_digit = negated (is_ascii_digit c) b.0; no_space = negated (is_space c) d.0; no_stroke = negated (c == 47) d.1 }
 
 -- no second character of a mark is 0

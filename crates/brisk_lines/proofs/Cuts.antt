@@ -4,10 +4,10 @@ use Rattle.std.specs.List.{list_all}
 use Rattle.std.proofs.lemmas.Bool.{ne_eqb}
 use Rattle.std.proofs.lemmas.List.{take-append-drop, take_more, take_all}
 use Rattle.std.proofs.lemmas.List.Folds.{list_all-append}
-use Rattle.brisk_lex.proofs.Ascii.{both}
 use Rattle.brisk_text.specs.Values.{Text}
 use Rattle.brisk_lines.specs.Lines.{Reads}
 use Rattle.brisk_lines.specs.Pieces.{differs, Lacks, Begins, IsCut}
+use Rattle.brisk_values.proofs.Changes.{both_true}
 
 pub clash : (c x : ℕ) → differs c x ≡ true → x ≡ c → ⊥
 clash c x d e = let k : (x == c) ≡ true = eq-eqb x c e in let no : not true ≡ true = ap not (sym k) ∙ d in cc
@@ -17,14 +17,14 @@ cut_once c [] r [] s a b d e h = (refl, h)
 cut_once c [] [] (x ∷ g) s a b d e h = absurd (let k = h in cc)
 cut_once c [] (y ∷ r) (x ∷ g) s a b d e h =
     let k : x ≡ c = (let q : y ≡ x = cc in sym q ∙ b) in
-    absurd (clash c x (both (differs c x) (list_all (differs c) g) d).0 k)
+    absurd (clash c x (both_true (differs c x) (list_all (differs c) g) d).0 k)
 cut_once c (x ∷ f) r [] [] a b d e h = absurd (let k = h in cc)
 cut_once c (x ∷ f) r [] (y ∷ s) a b d e h =
     let k : x ≡ c = (let q : x ≡ y = cc in q ∙ e) in
-    absurd (clash c x (both (differs c x) (list_all (differs c) f) a).0 k)
+    absurd (clash c x (both_true (differs c x) (list_all (differs c) f) a).0 k)
 cut_once c (x ∷ f) r (y ∷ g) s a b d e h =
-    let u = both (differs c x) (list_all (differs c) f) a in
-    let v = both (differs c y) (list_all (differs c) g) d in
+    let u = both_true (differs c x) (list_all (differs c) f) a in
+    let v = both_true (differs c y) (list_all (differs c) g) d in
     let head : x ≡ y = cc in
     let tail : f ++ r ≡ g ++ s = cc in
     let w = cut_once c f r g s u.1 b v.1 e tail in

@@ -7,7 +7,6 @@ use Rattle.std.specs.List.{list_all}
 use Rattle.std.proofs.lemmas.List.{append_cancel_left, append_cancel_right}
 use Rattle.std.proofs.lemmas.List.Folds.{list_all-append}
 use Rattle.brisk_lex.specs.Spelled.{IsName, is_numeral}
-use Rattle.brisk_lex.proofs.Ascii.{both}
 use Rattle.brisk_lex.proofs.Printed.{decimal_is}
 use Rattle.brisk_text.specs.Values.{Text, value_text}
 use Rattle.brisk_values.specs.Names.{Name}
@@ -22,6 +21,7 @@ use Rattle.brisk_lines.proofs.Cuts.{cut_once, clash}
 use Rattle.brisk_lines.proofs.Decimals.{decimal_same, short}
 use Rattle.brisk_lines.proofs.Plain.{name_lacks, process_lacks, decimal_lacks}
 use Rattle.brisk_lines.proofs.Sides.{member_begins, place_begins, end_begins, apart, some_bytes, regroup}
+use Rattle.brisk_values.proofs.Changes.{both_true}
 
 -- where a text lacks the byte and another begins with it, the two are known by the bytes of both
 module _ {A B : Type 0} (c : ℕ) (text : A → Text) (behind : B → Text) (IsA : A → Type 0) (lacks : (x : A) → IsA x → Lacks c (text x)) (begins : (y : B) → Begins c (behind y)) where
@@ -32,8 +32,8 @@ module _ {A B : Type 0} (c : ℕ) (text : A → Text) (behind : B → Text) (IsA
 
 holds_it : (c : ℕ) (a b : Text) → Lacks c (a ++ c ∷ b) → ⊥
 holds_it c a b h =
-    let k = both (list_all (differs c) a) (list_all (differs c) (c ∷ b)) (sym (list_all-append (differs c) a (c ∷ b)) ∙ h) in
-    clash c c (both (differs c c) (list_all (differs c) b) k.1).0 refl
+    let k = both_true (list_all (differs c) a) (list_all (differs c) (c ∷ b)) (sym (list_all-append (differs c) a (c ∷ b)) ∙ h) in
+    clash c c (both_true (differs c c) (list_all (differs c) b) k.1).0 refl
 
 unsigned : (m n : ℕ) → m < 2 ^ 64 → decimal m ≡ 45 ∷ decimal n → ⊥
 unsigned m n h e = holds_it 45 [] (decimal n) (subst (Lacks 45) e (decimal_lacks 45 (omega arith) m h))

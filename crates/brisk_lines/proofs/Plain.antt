@@ -13,12 +13,13 @@ use Rattle.unicode_ident.specs.Ident.{is_xid_continue}
 use lib.Utf8.{encode, next}
 use Rattle.brisk_lex.specs.Tokens.{starts_name}
 use Rattle.brisk_lex.specs.Spelled.{is_identifier, IsName}
-use Rattle.brisk_lex.proofs.Ascii.{both, starts_ascii}
+use Rattle.brisk_lex.proofs.Ascii.{starts_ascii}
 use Rattle.brisk_lex.proofs.Printed.{is_plain, plain_ends}
 use Rattle.brisk_text.specs.Values.{Text}
 use Rattle.brisk_lines.specs.declared.line.Process.{Process}
 use Rattle.brisk_lines.specs.Lines.{member_text, process_text, IsShort, IsLegalProcess}
 use Rattle.brisk_lines.specs.Pieces.{differs, Lacks}
+use Rattle.brisk_values.proofs.Changes.{both_true}
 
 other : (c x : ℕ) → (x ≡ c → ⊥) → differs c x ≡ true
 other c x h = ap not (ne_eqb x c h)
@@ -48,17 +49,17 @@ encode_lacks c d l h =
 goes_on_lacks : (c : ℕ) (cs : Text) → is_plain c ≡ true → c < 128 → list_all is_xid_continue cs ≡ true → Lacks c (encode_utf8_all cs)
 goes_on_lacks c [] p l h = refl
 goes_on_lacks c (d ∷ cs) p l h =
-    let b = both (is_xid_continue d) (list_all is_xid_continue cs) h in
+    let b = both_true (is_xid_continue d) (list_all is_xid_continue cs) h in
     let ne : d ≡ c → ⊥ = λ e. (let wrong : true ≡ false = sym b.0 ∙ ap is_xid_continue e ∙ plain_ends c p in cc) in
     both_lack c (encode d) (encode_utf8_all cs) (encode_lacks c d l ne) (goes_on_lacks c cs p l b.1)
 
 plain_starts_none : (c : ℕ) → is_plain c ≡ true → c < 128 → starts_name c ≡ false
-plain_starts_none c p l = starts_ascii c l ∙ (let b = both (nat_lt c 128) (not (is_ascii_alphanumeric c || c == 95)) p in grind (arith, nat_tests, b.1))
+plain_starts_none c p l = starts_ascii c l ∙ (let b = both_true (nat_lt c 128) (not (is_ascii_alphanumeric c || c == 95)) p in grind (arith, nat_tests, b.1))
 
 identifier_lacks : (c : ℕ) (cs : Text) → is_plain c ≡ true → c < 128 → is_identifier cs ≡ true → Lacks c (encode_utf8_all cs)
 identifier_lacks c [] p l h = refl
 identifier_lacks c (d ∷ cs) p l h =
-    let b = both (starts_name d) (list_all is_xid_continue cs) h in
+    let b = both_true (starts_name d) (list_all is_xid_continue cs) h in
     let ne : d ≡ c → ⊥ = λ e. (let wrong : true ≡ false = sym b.0 ∙ ap starts_name e ∙ plain_starts_none c p l in cc) in
     both_lack c (encode d) (encode_utf8_all cs) (encode_lacks c d l ne) (goes_on_lacks c cs p l b.1)
 

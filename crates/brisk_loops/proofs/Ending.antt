@@ -1,6 +1,7 @@
 -- How a walk leaves a rule.
 use Rattle.std.proofs.Common.{◌≡◌, ℕ, ◌+◌, List, [], ◌∷◌, ◌++◌, length, refl, sym, ap, ◌∙◌, subst}
-use Rattle.std.specs.Prelude.{Some, Ok, Err}
+use Rattle.std.specs.Prelude.{Option, Some, None, Result, Ok, Err, IfOk, IfErr, IsErr}
+use Rattle.brisk_values.specs.declared.memory.NoMemory.{NoMemory as AllocFault}
 use Rattle.brisk_syntax.specs.declared.program.Program.{Program}
 use Rattle.brisk_seq.specs.Items.{Item, Items, nothing, ◌⨟◌, ◌followed_by◌}
 use Rattle.brisk_state.specs.Symbolic.{Symbolic}
@@ -15,15 +16,17 @@ use Rattle.brisk_loops.specs.declared.fault.Refusal.TheVariants.{Because, NoMemo
 use Rattle.brisk_loops.specs.declared.rule.Rule.{Rule}
 use Rattle.brisk_loops.specs.declared.rule.Side.{Side}
 use Rattle.brisk_loops.specs.declared.rule.Side.TheVariants as side
+use Rattle.brisk_rules.specs.declared.why.Why.{Why}
 use Rattle.brisk_rules.specs.Derives.{told_at}
 use Rattle.brisk_rules.specs.Rules.{Outcome, Entered, Parted, around, close, enter_while, enter_for, enter_repeat, enter_gather, enter_pick}
-use Rattle.brisk_loops.specs.EnterSeen.{Refuses, refused_at}
-use Rattle.brisk_loops.specs.LeaveSeen.{IsClosedBy, closed_state, EndsAs, ends, item_around, in_side, IsInFirst, IsPastFirst}
+use Rattle.brisk_loops.specs.EnterSeen.{Refuses, TellsWhy, refused_at}
+use Rattle.brisk_loops.specs.LeaveSeen.{IsClosedBy, closed_state, EndsAs, ends, item_around, in_side, IsInFirst, IsPastFirst, state_after}
 use Rattle.brisk_loops.specs.declared.leave.Closed.{Closed}
+use Rattle.brisk_loops.specs.declared.leave.Ended.{Ended}
 use Rattle.brisk_loops.specs.declared.leave.Ended.TheVariants.{Closes as by_close}
 use Rattle.brisk_loops.specs.Walk.{Inside, Premise, First, Second, Open, Walked, Called, entry, in_premise, leave, leave_in, leave_of, line, outside}
 use Rattle.brisk_loops.specs.WalkKept.{kept}
-use Rattle.brisk_loops.specs.WalkSeen.{AreEntered, IsEntered, inside_of, open_of, opened_by, Gives, Fails}
+use Rattle.brisk_loops.specs.WalkSeen.{AreEntered, IsEntered, inside_of, open_of, opened_by, refused_by, Gives, Fails}
 use Rattle.brisk_loops.proofs.Crossing.{empty}
 use Rattle.brisk_loops.proofs.Enters.{one_opened}
 
@@ -105,3 +108,22 @@ module _ (P : Program) (S : Symbolic) (X : Items) (rs : List Rule) (a n : ℕ) (
       ap leave (sym same) ∙ innermost ∙ left_so w (open_of P r) (opened_by P rs') here past ∙ ap (λ z. and_then (told_at (n + 2) z) (λ T. Ok (outside w (open_of P r) (opened_by P rs') T (item_around here X)))) h,
       (λ i. record { program = P; state = at i; items = (items ∙ ap (λ z. r.items followed_by (z ⨟ nothing)) around) i; entered = opened_by P (same_rules i); applied = more i; counted = next i }),
     )
+
+    -- why it isn't left
+    pub closes_so : (T : Symbolic) → IsPastFirst here → ends here S ≡ Ok T → refused_by (leave now) ≡ None
+    closes_so T past h = ap refused_by (ap leave (sym same) ∙ innermost ∙ left_so w (open_of P r) (opened_by P rs') here past ∙ ap (λ z. and_then (told_at (n + 2) z) (λ T. Ok (outside w (open_of P r) (opened_by P rs') T (item_around here X)))) h)
+
+    pub refuses_so : (why : Why) → Refuses (ends here S) (Because why) → refused_by (leave now) ≡ Some why
+    refuses_so why h = ap refused_by (leave_fails (Because why) h).1
+
+    -- what is told of why it isn't left
+    pub why_so : (ended : Result (Option Ended) Refusal) (told : Result (Option Why) AllocFault) → IfOk ended (λ e. EndsAs here r.side S e) → IfErr ended (λ f. Refuses (ends here S) f) →
+        IfOk ended (λ e. told ≡ Ok None) → IfErr ended (λ f. TellsWhy f told) → IfOk told (λ o. o ≡ refused_by (leave now))
+    why_so (Ok None) told ok cause done tells = subst (λ z. IfOk z (λ o. o ≡ refused_by (leave now))) (sym done) (sym (ap refused_by (ap leave (sym same) ∙ first_stays ok)))
+    why_so (Ok (Some e)) told ok cause done tells = subst (λ z. IfOk z (λ o. o ≡ refused_by (leave now))) (sym done) (sym (closes_so (state_after e r.side S) ok.0 ok.1))
+    why_so (Err (Because why)) told ok cause done tells = subst (λ z. IfOk z (λ o. o ≡ refused_by (leave now))) (sym tells) (sym (refuses_so why cause))
+    why_so (Err NoMemory) told ok cause done tells = no_memory told tells
+      where
+        no_memory : (t : Result (Option Why) AllocFault) → IsErr t → IfOk t (λ o. o ≡ refused_by (leave now))
+        no_memory (Ok o) h = absurd (let w = h in cc)
+        no_memory (Err e) h = tt

@@ -1,7 +1,7 @@
 -- How a rule is entered on a walk.
-use Rattle.std.proofs.Common.{◌≡◌, ℕ, ◌+◌, ◌^◌, ◌<◌, Bool, true, false, List, [], ◌∷◌, ◌++◌, map, reverse, length, refl, sym, ap, ◌∙◌, subst, arith}
-use Rattle.std.proofs.lemmas.List.{length-reverse, length-map, map-append, reverse-append}
-use Rattle.std.specs.Prelude.{Ok, nat_lt}
+use Rattle.std.proofs.Common.{◌≡◌, ℕ, zero, suc, ◌+◌, ◌^◌, ◌<◌, ◌≤◌, get_or, Bool, true, false, List, [], ◌∷◌, ◌++◌, map, reverse, length, refl, sym, ap, ◌∙◌, subst, arith}
+use Rattle.std.proofs.lemmas.List.{length-append, length-reverse, length-map, map-append, reverse-append}
+use Rattle.std.specs.Prelude.{Ok, Err, Some, None, if◌then◌else◌, nat_eq, nat_lt, option_map, slice_get}
 use Rattle.brisk_syntax.specs.declared.program.Program.{Program}
 use Rattle.brisk_seq.specs.Items.{Items, nothing}
 use Rattle.brisk_state.specs.Symbolic.{Symbolic}
@@ -14,12 +14,16 @@ use Rattle.brisk_loops.specs.declared.fault.AcceptFault.TheVariants.{Bad, NoMemo
 use Rattle.brisk_loops.specs.declared.fault.Refusal.{Refusal}
 use Rattle.brisk_loops.specs.declared.fault.Refusal.TheVariants.{Because, NoMemory}
 use Rattle.brisk_loops.specs.declared.rule.Rule.{Rule}
+use Rattle.brisk_loops.specs.declared.rule.Side.{Side as WhichSide}
 use Rattle.brisk_loops.specs.declared.rule.Side.TheVariants as side
+use Rattle.std.proofs.lemmas.Bool.{eqb-false, eqb-true}
+use Rattle.std.proofs.lemmas.Option.{same_Some, slice_get-get_or, slice_get_past}
+use Rattle.brisk_rules.specs.declared.why.Why.{Why}
 use Rattle.brisk_rules.specs.declared.why.Why.TheVariants.{Side}
 use Rattle.brisk_rules.specs.Derives.{told_at, nested}
 use Rattle.brisk_loops.specs.EnterSeen.{StartsAt, StartsIn, SideAt, Refuses, refused_at}
 use Rattle.brisk_rules.specs.Rules.{Outcome, Entered, Parted}
-use Rattle.brisk_loops.specs.Walk.{Inside, Premise, First, Second, Walked, alone, in_premise, entry, opened, inside, enter}
+use Rattle.brisk_loops.specs.Walk.{Inside, Premise, First, Second, Open, Walked, premise_of, premise_in, premise_at, rule_at, alone, in_premise, entry, opened, inside, enter}
 use Rattle.brisk_loops.specs.WalkKept.{kept}
 use Rattle.brisk_rules.proofs.Fulfilled.{when_ok}
 use Rattle.brisk_loops.proofs.Standing.{entry_alone, no_second}
@@ -112,3 +116,91 @@ is_entered P S A deep i e = by i (sym (entry_alone P S A) ∙ (when_ok (nat_lt d
     by (Premise r) e never = subst (λ (z : Outcome Inside). IsEntered z side.First) (sym e) tt
     by (First r) e never = subst (λ (z : Outcome Inside). IsEntered z side.First) (sym e) tt
     by (Second r E X) e never = absurd (never r E X (entry_alone P S A ∙ e))
+
+-- the rule that stands at a place has as many around it
+apart_from : (n k : ℕ) → (n ≡ k → ⊥) → nat_eq n k ≡ false
+apart_from n k h = by (nat_eq n k) refl
+  where
+    by : (b : Bool) → nat_eq n k ≡ b → b ≡ false
+    by true e = absurd (h (eqb-true n k e))
+    by false e = refl
+
+same_as : (n : ℕ) → nat_eq n n ≡ true
+same_as n = by (nat_eq n n) refl
+  where
+    by : (b : Bool) → nat_eq n n ≡ b → b ≡ true
+    by true e = refl
+    by false e = absurd (eqb-false n n e refl)
+
+one_less : (n m k : ℕ) → n ≡ m + 1 → nat_eq n (suc k) ≡ nat_eq m k
+one_less n m k h = by (nat_eq m k) refl
+  where
+    by : (b : Bool) → nat_eq m k ≡ b → nat_eq n (suc k) ≡ b
+    by true e = let same = eqb-true m k e in ap (λ z. nat_eq z (suc k)) (omega (arith, h, same)) ∙ same_as (suc k)
+    by false e = apart_from n (suc k) (λ q. eqb-false m k e (omega (arith, h, q)))
+
+longer_by : (os : List Open) (o : Open) → length (os ++ o ∷ []) ≡ length os + 1
+longer_by os o = length-append os (o ∷ [])
+
+last_at : (os : List Open) (o : Open) → rule_at (os ++ o ∷ []) 0 ≡ Some o
+last_at [] o = refl
+last_at (x ∷ os) o = ap (λ b. if b then Some x else rule_at (os ++ o ∷ []) 0) (apart_from (length (os ++ o ∷ [])) 0 (omega (arith, longer_by os o))) ∙ last_at os o
+
+earlier_at : (os : List Open) (o : Open) (k : ℕ) → rule_at (os ++ o ∷ []) (suc k) ≡ rule_at os k
+earlier_at [] o k = ap (λ b. if b then Some o else None) (apart_from 0 (suc k) (λ q. omega (arith, q)))
+earlier_at (x ∷ os) o k = λ i. if one_less (length (os ++ o ∷ [])) (length os) k (longer_by os o) i then Some x else earlier_at os o k i
+
+first_last : (P : Program) (r : Rule) (rs : List Rule) → opened_by P (r ∷ rs) ≡ opened_by P rs ++ open_of P r ∷ []
+first_last P r rs = reverse-append (open_of P r ∷ []) (map (open_of P) rs)
+
+opened_at : (P : Program) (rs : List Rule) (k : ℕ) → rule_at (opened_by P rs) k ≡ option_map (open_of P) (slice_get rs k)
+opened_at P [] k = refl
+opened_at P (r ∷ rs) zero = ap (λ os. rule_at os 0) (first_last P r rs) ∙ last_at (opened_by P rs) (open_of P r)
+opened_at P (r ∷ rs) (suc k) = ap (λ os. rule_at os (suc k)) (first_last P r rs) ∙ earlier_at (opened_by P rs) (open_of P r) k ∙ opened_at P rs k
+
+-- a rule that is entered
+entered_at : (P : Program) (rs : List Rule) (k : ℕ) (r : Rule) → AreEntered P rs → slice_get rs k ≡ Some r → IsEntered (entry P r.state (step_of r.step)) r.side
+entered_at P [] k r h e = absurd cc
+entered_at P (q ∷ rs) zero r h e = subst (λ (z : Rule). IsEntered (entry P z.state (step_of z.step)) z.side) (same_Some q r e) h.0
+entered_at P (q ∷ rs) (suc k) r h e = entered_at P rs k r h.1 e
+
+-- no side is one of what isn't entered, nor of a second side
+not_second : (q : Parted) (F : Symbolic) (Y : Items) (s : WhichSide) → IsEntered (Ok (Second q F Y)) s → ⊥
+not_second q F Y side.First is = is
+not_second q F Y (side.Second E X) is = is
+
+no_entry : (why : Why) (s : WhichSide) → IsEntered (Err why) s → ⊥
+no_entry why side.First is = is
+no_entry why (side.Second E X) is = is
+
+with_premise : (x : Entered) (i : Outcome Inside) (s : WhichSide) (S : Symbolic) → IsEntered i s → premise_of (inside_of i s S) ≡ Some x → i ≡ Ok (Premise x)
+with_premise x (Ok (Premise q)) side.First S is e = ap (λ (z : Entered). Ok (Premise z)) (same_Some q x e)
+with_premise x (Ok (Premise q)) (side.Second E X) S is e = absurd is
+with_premise x (Ok (First q)) side.First S is e = absurd cc
+with_premise x (Ok (First q)) (side.Second E X) S is e = absurd cc
+with_premise x (Ok (Second q F Y)) s S is e = absurd (not_second q F Y s is)
+with_premise x (Err why) s S is e = absurd (no_entry why s is)
+
+-- with a premise it is entered by a step with one
+premise_entered : (P : Program) (rs : List Rule) (k : ℕ) (r : Rule) (x : Entered) → AreEntered P rs → slice_get rs k ≡ Some r → premise_at (opened_by P rs) k ≡ Some x → entry P r.state (step_of r.step) ≡ Ok (Premise x)
+premise_entered P rs k r x h e p =
+    with_premise x (entry P r.state (step_of r.step)) r.side r.state (entered_at P rs k r h e) (ap premise_in (sym (opened_at P rs k ∙ ap (option_map (open_of P)) e)) ∙ p)
+
+-- the rule of a slice at a place, and where there is none
+module _ (now : Walked) (P : Program) (S : Symbolic) (X : Items) (rs xs : List Rule) (a n : ℕ)
+    (same : ◌≡◌ {A = Walked} record { program = P; state = S; items = X; entered = opened_by P rs; applied = a; counted = n } now) (slice : xs ≡ rs) (k : ℕ) where
+  pub none_there : length xs ≤ k → rule_at now.entered k ≡ None
+  none_there h = ap (λ w. rule_at w.entered k) (sym same) ∙ opened_at P rs k ∙ ap (option_map (open_of P)) (ap (λ z. slice_get z k) (sym slice) ∙ slice_get_past xs k h)
+
+  module _ (r : Rule) (less : k < length xs) (got : (d : Rule) → r ≡ get_or xs k d) where
+    at_place : slice_get rs k ≡ Some r
+    at_place = ap (λ z. slice_get z k) (sym slice) ∙ slice_get-get_or xs k r less ∙ ap Some (sym (got r))
+
+    pub some_there : rule_at now.entered k ≡ Some (open_of P r)
+    some_there = ap (λ w. rule_at w.entered k) (sym same) ∙ opened_at P rs k ∙ ap (option_map (open_of P)) at_place
+
+    pub entry_there : (x : Entered) → AreEntered P rs → premise_at now.entered k ≡ Some x → entry P r.state (step_of r.step) ≡ Ok (Premise x)
+    entry_there x h p = premise_entered P rs k r x h at_place (ap (λ w. premise_at w.entered k) same ∙ p)
+
+  pub no_premise : (x : Entered) → length xs ≤ k → premise_at now.entered k ≡ Some x → ⊥
+  no_premise x h p = let e = ap premise_in (sym (none_there h)) ∙ p in cc

@@ -27,6 +27,7 @@ use Rattle.brisk_loops.specs.HeadsSeen.{while_in, repeat_in, gather_in, any_in}
 use Rattle.brisk_loops.specs.LeaveSeen.{StartsLike, closed_state}
 use Rattle.brisk_rules.specs.Rules.{Outcome, Kind, Owner, Entered, looks, looks_at, looks_at_key, unless, first_fault, unfinished, not_restored, close_tests, last_tests, close, after_close, fault_or, without_drops, entered_alone, entered_any, enter_while, enter_repeat, enter_gather, enter_pick, mode_of, not_focused, is_nonempty}
 use Rattle.brisk_rules.specs.Rules as rules
+use Rattle.brisk_rules.specs.Standing.{fault_aside}
 use Rattle.brisk_loops.specs.Walk.{Premise, in_premise}
 use Rattle.brisk_rules.proofs.Fulfilled.{same_ok, when_ok, at_head_ok}
 use Rattle.brisk_loops.proofs.Entering.{at_code, gather_heard, any_heard}
@@ -75,6 +76,14 @@ like_close r drops S like E =
     ∷ unless (same_pending (pending_where (looks_at_key (looks r.kind)) (like.1 i)) (pending_where (looks_at_key (looks r.kind)) E.pending)) MailChanged
     ∷ unless (list_all (is_fact E.facts) (facts_where (λ q. looks_at (looks r.kind) q.0) (like.0 i))) FactLost ∷ last_tests r.kind E))
     (after_close (record r { known = like.0 i }) E)
+
+-- facts aside, its tests are those from before
+pub aside_like : (r : Entered) (drops : List Fact) (S E : Symbolic) (owners : List Owner) (kind : Kind) → StartsLike r drops S → owners ≡ r.owners → kind ≡ r.kind → fault_aside (closing kind owners [] S) E ≡ fault_aside r E
+aside_like r drops S E owners kind like o k =
+    (λ i. fault_aside (closing (k i) (o i) [] S) E)
+    ∙ (λ i. first_fault (first_fault (map (unfinished E) r.owners) ∷ sym (like.2 E) i
+    ∷ unless (same_pending (pending_where (looks_at_key (looks r.kind)) (sym like.1 i)) (pending_where (looks_at_key (looks r.kind)) E.pending)) MailChanged
+    ∷ None ∷ last_tests r.kind E))
 
 pub while_closes : (S : Symbolic) (t : Name) (drops : List Fact) (code : Code) (e : Expression) (b : Code) (r : Entered) → Some code ≡ code_at S t → Some (e, b) ≡ while_in (head_of code) → enter_while S t drops ≡ Ok r →
     (record { name = t; rest = rest_of code } ∷ [] ≡ r.owners) × (rules.While t e ≡ r.kind)

@@ -31,6 +31,7 @@ use Rattle.brisk_loops.specs.LeaveSeen.{StartsLike, owner_by, behind}
 use Rattle.brisk_rules.proofs.Fulfilled.{and_then_ok, same_ok, when_ok}
 use Rattle.brisk_loops.proofs.Entering.{at_code}
 use Rattle.brisk_loops.proofs.Leaving.{code_moved, mode_moved}
+use Rattle.std.proofs.lemmas.Bool.{or_right}
 
 -- a name is among names in whatever order
 any_append : {A : Type 0} (f : A → Bool) (xs ys : List A) → list_any f (xs ++ ys) ≡ (list_any f xs || list_any f ys)
@@ -234,12 +235,8 @@ bodies_moved : (look : Name → Bool) (ts : List Name) (ls : List Loop) → ((u 
 bodies_moved look [] ls free threads us = refl
 bodies_moved look (t ∷ ts) [] free threads us = refl
 bodies_moved look (t ∷ ts) (l ∷ ls) free threads us =
-    bodies_moved look ts ls (λ u h. free u (later (same_name u t) _ h)) (with_code t l.body threads) us
+    bodies_moved look ts ls (λ u h. free u (or_right (same_name u t) _ h)) (with_code t l.body threads) us
     ∙ code_moved look t l.body (λ u h. free u (ap (λ b. b || list_any (λ o. same_name u o.name) (with_rests ts ls)) (name_laws.symm u t ∙ h))) threads us
-  where
-    later : (a b : Bool) → b ≡ true → (a || b) ≡ true
-    later true b h = refl
-    later false b h = h
 
 pub for_like : (S : Symbolic) (s : Name) (ts : List Name) (drops : List Fact) (r : Entered) → enter_for S s ts drops ≡ Ok r → StartsLike r drops S
 for_like S s ts drops r e =

@@ -1,5 +1,5 @@
 -- What contracts see of a rule that is entered.
-use Rattle.std.specs.Prelude.{◌≡◌, ℕ, ◌+◌, Bool, true, false, List, ◌∷◌, map, Option, Some, None, Ok, Err}
+use Rattle.std.specs.Prelude.{◌≡◌, ℕ, ◌+◌, Bool, true, false, List, ◌∷◌, map, Option, Some, None, Result, Ok, Err, IsErr}
 use Rattle.brisk_values.specs.Names.{Name}
 use Rattle.brisk_syntax.specs.Syntax.{Code}
 use Rattle.brisk_basic.specs.declared.rule.RuleFault.TheVariants.{NoThread}
@@ -73,3 +73,8 @@ focus_fault mode = Some (Rule NoThread)
 abbrev pub is_at : Option Mode → Bool
 is_at (Some At) = true
 is_at mode = false
+
+-- what a refusal tells is its reason; or there was no memory
+abbrev pub TellsWhy : {E : Type 0} → Refusal → Result (Option Why) E → Type 0
+TellsWhy (Because why) told = told ≡ Ok (Some why)
+TellsWhy NoMemory told = IsErr told

@@ -1,12 +1,12 @@
 -- What contracts see of a rule that is left.
-use Rattle.std.specs.Prelude.{◌≡◌, List, Option, Some, None, Ok}
+use Rattle.std.specs.Prelude.{◌≡◌, not, filter, List, Option, Some, None, Ok}
 use Rattle.brisk_values.specs.Names.{Name}
 use Rattle.brisk_syntax.specs.Expressions.{expression_of}
 use Rattle.brisk_syntax.specs.Segments.{rest_of}
 use Rattle.brisk_syntax.specs.Syntax.{Expression, Code, done}
 use Rattle.brisk_seq.specs.Items.{Item, Items, nothing}
 use Rattle.brisk_seq.specs.Items as item
-use Rattle.brisk_facts.specs.Facts.{Facts, common}
+use Rattle.brisk_facts.specs.Facts.{Facts, common, facts_where, is_fact}
 use Rattle.brisk_state.specs.Symbolic.{Symbolic, code_at}
 use Rattle.brisk_derivation.specs.declared.steps.Fact.{Fact}
 use Rattle.brisk_loops.specs.declared.leave.Closing.{Closing}
@@ -17,7 +17,7 @@ use Rattle.brisk_loops.specs.declared.rule.Side.{Side}
 use Rattle.brisk_loops.specs.declared.rule.Side.TheVariants as side
 use Rattle.brisk_loops.specs.CloseSeen.{kind_of, is_looked_at}
 use Rattle.brisk_loops.specs.Walk.{Inside, Premise, First, Second}
-use Rattle.brisk_rules.specs.Rules.{Outcome, Kind, Owner, Entered, Parted, around, around_sides, close, join, looks, unfocused, at_rests, not_restored, without_drops}
+use Rattle.brisk_rules.specs.Rules.{Outcome, Kind, Owner, Entered, Parted, around, around_sides, close, join, looks, looks_at, unfocused, at_rests, not_restored, without_drops}
 
 -- it is the rule that was entered
 abbrev pub Closes : Closing → Entered → Type 0
@@ -28,6 +28,10 @@ abbrev pub StartsLike : Entered → List Fact → Symbolic → Type 0
 StartsLike r drops S =
     (r.known ≡ without_drops drops S.facts) × (r.start.pending ≡ S.pending)
     × ((E : Symbolic) → not_restored (is_looked_at r.kind r.owners) r.start.threads E.threads ≡ not_restored (is_looked_at r.kind r.owners) S.threads E.threads)
+
+-- the facts that the close of a rule asks for and misses
+abbrev pub lost_by : Entered → Symbolic → Facts
+lost_by r E = filter (λ e. not (is_fact E.facts e)) (facts_where (λ q. looks_at (looks r.kind) q.0) r.known)
 
 -- the state after a close with these facts
 abbrev pub closed_state : Kind → List Owner → Facts → Symbolic → Symbolic

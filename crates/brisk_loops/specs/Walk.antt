@@ -1,5 +1,5 @@
 -- A walk: the rules of a derivation, applied one by one by calls on plain data.
-use Rattle.std.specs.Prelude.{ℕ, ◌+◌, List, [], ◌∷◌, ◌++◌, Result, Ok, Err, length}
+use Rattle.std.specs.Prelude.{ℕ, ◌+◌, List, [], ◌∷◌, ◌++◌, Option, Some, None, Result, Ok, Err, if◌then◌else◌, length, nat_eq}
 use Rattle.brisk_syntax.specs.declared.program.Program.{Program}
 use Rattle.brisk_seq.specs.declared.tree.SeqProgram.{SeqProgram}
 use Rattle.brisk_seq.specs.Items.{Item, Items, nothing, ◌⨟◌, ◌followed_by◌}
@@ -75,6 +75,24 @@ entry P S (For s ts drops a) = in_premise (enter_for S s ts drops)
 entry P S (Repeat t drops a) = in_premise (enter_repeat S t drops)
 entry P S (Gather t drops a) = in_premise (enter_gather S t drops)
 entry P S (Pick t drops a) = in_premise (enter_pick P S t drops)
+
+-- the rule with so many rules around it, where the innermost stands first
+abbrev pub rule_at : List Open → ℕ → Option Open
+rule_at [] around = None
+rule_at (o ∷ more) around = if nat_eq (length more) around then Some o else rule_at more around
+
+-- its premise, where it has one
+abbrev pub premise_of : Inside → Option Entered
+premise_of (Premise r) = Some r
+premise_of (First r) = None
+premise_of (Second r E X) = None
+
+abbrev pub premise_in : Option Open → Option Entered
+premise_in None = None
+premise_in (Some o) = premise_of o.inside
+
+abbrev pub premise_at : List Open → ℕ → Option Entered
+premise_at entered around = premise_in (rule_at entered around)
 
 -- where it starts
 abbrev pub starts : Inside → Symbolic

@@ -77,6 +77,11 @@ abbrev pub fault_by : {A : Type 0} → Outcome A → Option Why
 fault_by (Ok a) = None
 fault_by (Err why) = Some why
 
+-- why the call is refused, if it is
+abbrev pub refused_by : Called → Option Why
+refused_by (Ok w) = None
+refused_by (Err failure) = Some failure.why
+
 -- a call that tells of this failure, at the line that is told; or there is no memory
 abbrev pub Tells : {A : Type 0} → Result A Failure → AcceptFault → Type 0
 Tells call (Bad at why) = call ≡ Err record { line = at; why = why }

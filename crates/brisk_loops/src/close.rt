@@ -1,5 +1,5 @@
 //! How a rule with one premise is closed: its tests, and the facts behind it.
-ghost use Rattle.std.specs.Prelude.{◌≡◌, not, false, map, if◌then◌else◌, IfErr, IfOk, None, OnOk};
+ghost use Rattle.std.specs.Prelude.{◌≡◌, [], not, false, map, if◌then◌else◌, IfErr, IfOk, None, OnOk};
 ghost use Rattle.brisk_derivation.specs.declared.fault.SideFault.TheVariants.{NotRestored};
 ghost use Rattle.brisk_state.specs.Same.{same_code as same_tree};
 ghost use Rattle.brisk_loops.specs.EnterSeen.{Refuses};
@@ -9,6 +9,7 @@ ghost use Rattle.brisk_facts.specs.Facts.{facts_where};
 ghost use Rattle.brisk_state.specs.Symbolic.{pending_where, same_pending};
 ghost use Rattle.brisk_loops.specs.CloseSeen.{closing, either_fault, drops_in, has_left, is_looked_at, kind_of};
 ghost use Rattle.brisk_rules.specs.Rules.{after_close, close as close_of, first_fault, learnt, unless, gather_tests, last_tests, looks, close_tests, looks_at as looks_at_role, looks_at_key, not_restored as not_restored_in, unfinished as unfinished_in, without_drops};
+ghost use Rattle.brisk_rules.specs.Standing.{fault_aside};
 
 use crate::enter::drop_facts;
 use crate::fault::Refusal;
@@ -25,7 +26,7 @@ use std::marker::Model;
 
 /// What a rule with one premise is, with what its close needs.
 #[derive(Drop)]
-pub(crate) enum Loop {
+pub enum Loop {
     /// The owner and the guard.
     While(Name, Expr),
     Repeat(Name),
@@ -37,9 +38,9 @@ pub(crate) enum Loop {
 
 /// An owner, and the code at which it stands after the rule.
 #[derive(Drop)]
-pub(crate) struct Owner {
-    pub(crate) name: Name,
-    pub(crate) rest: Code,
+pub struct Owner {
+    pub name: Name,
+    pub rest: Code,
 }
 
 impl Model for Owner {
@@ -53,8 +54,8 @@ impl Model for Owner {
     ghost view = { λ o. record { name = o.name; rest = o.rest } };
 }
 
-// Whether the close looks at the role.
-fn looks_at(kind: &Loop, role: Name) -> bool
+/// Whether the close looks at the role.
+pub fn looks_at(kind: &Loop, role: Name) -> bool
     ensures { result ≡ looks_at_role (looks (kind_of kind.now)) role }
 {
     match kind {
@@ -87,7 +88,7 @@ fn is_unfinished(end: &State, name: Name) -> bool
 }
 
 /// Whether one of the owners has the name.
-pub(crate) fn is_owner(owners: &[Owner], name: Name) -> bool
+pub fn is_owner(owners: &[Owner], name: Name) -> bool
     ensures { result ≡ list_any (λ o. same_name name o.name) owners.now }
 {
     for owner in owners {
@@ -141,8 +142,8 @@ fn same_mail(kind: &Loop, before: &State, end: &State) -> Result<bool, NoMemory>
     }
 }
 
-// The facts from before at which the close looks.
-fn kept(kind: &Loop, before: &State, step: &Step) -> Result<Facts, NoMemory>
+/// The facts from before at which the close looks.
+pub(crate) fn kept(kind: &Loop, before: &State, step: &Step) -> Result<Facts, NoMemory>
     ensures { IfOk result (λ f. f ≡ facts_where (λ q. looks_at_role (looks (kind_of kind.now)) q.0) (without_drops (drops_in step.now) before.now.facts)) }
 {
     let mut facts = before.facts().copy()?;
@@ -270,6 +271,25 @@ pub(crate) fn facts_after(
     facts.add_all(kept)?;
     learn(kind, &mut facts)?;
     Ok(facts)
+}
+
+/// The first test of the close that fails, facts aside.
+pub(crate) fn aside(
+    alloc: Global,
+    kind: &Loop,
+    owners: &[Owner],
+    before: &State,
+    end: &State,
+) -> Result<Option<SideFault>, NoMemory>
+    ensures { IfOk result (λ o. o ≡ fault_aside (closing (kind_of kind.now) owners.now [] before.now) end.now) }
+{
+    if let Some(fault) = first_open(kind, owners, before, end) {
+        return Ok(Some(fault));
+    }
+    if !same_mail(kind, before, end)? {
+        return Ok(Some(SideFault::MailChanged));
+    }
+    last_fault(alloc, kind, end)
 }
 
 // The first owner that has code left, or the first other thread that doesn't stand where it stood.

@@ -1,5 +1,5 @@
 //! How a rule is left: what its step and the state before it say of its close.
-ghost use Rattle.std.specs.Prelude.{◌≡◌, ◌∷◌, [], map, IfErr, IfOk, IfSome, IsSome, List, Ok as okay};
+ghost use Rattle.std.specs.Prelude.{◌≡◌, ◌∷◌, [], map, IfErr, IfOk, IfSome, IsSome, List, None as none, Ok as okay};
 ghost use Rattle.brisk_derivation.specs.declared.steps.Fact.{Fact};
 ghost use Rattle.brisk_derivation.specs.Seen.{step_of};
 ghost use Rattle.brisk_seq.specs.Seen.{item_of};
@@ -7,13 +7,14 @@ ghost use Rattle.brisk_syntax.specs.Expressions.{expression_of};
 ghost use Rattle.brisk_syntax.specs.Segments.{head_of, rest_of};
 ghost use Rattle.brisk_syntax.specs.declared.program.Program.{Program};
 ghost use Rattle.brisk_loops.specs.CloseSeen.{drops_in, kind_of};
-ghost use Rattle.brisk_loops.specs.EnterSeen.{Refuses};
-ghost use Rattle.brisk_loops.specs.LeaveSeen.{Closes, EndsAs, IsClosedBy, StartsLike, closed_state, ends, in_side, item_after, joined_item, joined_state, owner_by, state_after};
+ghost use Rattle.brisk_loops.specs.EnterSeen.{Refuses, TellsWhy};
+ghost use Rattle.brisk_loops.specs.LeaveSeen.{Closes, EndsAs, IsClosedBy, StartsLike, closed_state, ends, in_side, item_after, joined_item, joined_state, lost_by, owner_by, state_after};
 ghost use Rattle.brisk_rules.specs.Rules.{Entered, Parted, around as around_of, at_rests, close as close_of, enter_branch, enter_for, enter_gather, enter_pick, enter_repeat, enter_while, looks, unfocused};
+ghost use Rattle.brisk_rules.specs.Standing.{fault_aside as fault_aside_of};
 ghost use Rattle.brisk_loops.specs.Walk.{Premise, entry};
 ghost use Rattle.brisk_loops.specs.WalkSeen.{IsEntered, inside_of};
 
-use crate::close::{Loop, Owner, facts_after};
+use crate::close::{Loop, Owner, aside, facts_after, kept};
 use crate::fault::Refusal;
 use crate::heads::{any_at, for_at, fork_at, gather_at, repeat_at, while_at};
 use crate::rule::{Rule, Side};
@@ -29,9 +30,9 @@ use std::alloc::Global;
 
 /// A rule with one premise, as its close needs it: its owners, and what it is.
 #[derive(Drop)]
-pub(crate) struct Closing {
-    pub(crate) owners: Vec<Owner>,
-    pub(crate) kind: Loop,
+pub struct Closing {
+    pub owners: Vec<Owner>,
+    pub kind: Loop,
 }
 
 /// A rule with one premise that closes, with the facts behind it.
@@ -181,6 +182,27 @@ pub(crate) fn closing_of(
     }
 }
 
+/// The first test of the close that fails, facts aside.
+pub(crate) fn fault_aside(
+    alloc: Global,
+    closing: &Closing,
+    before: &State,
+    end: &State,
+) -> Result<Option<SideFault>, NoMemory>
+    ensures { (r : Entered) (drops : List Fact) → StartsLike r drops before.now → Closes closing.now r → IfOk result (λ o. o ≡ fault_aside_of r end.now) }
+{
+    aside(alloc, &closing.kind, &closing.owners, before, end)
+}
+
+/// The facts that the close of the rule asks for and misses.
+pub(crate) fn lost(kind: &Loop, rule: &Rule, end: &State) -> Result<Facts, NoMemory>
+    ensures { (r : Entered) → StartsLike r (drops_in rule.now.step) rule.now.state → kind_of kind.now ≡ r.kind → IfOk result (λ f. f ≡ lost_by r end.now) }
+{
+    let mut facts = kept(kind, &rule.state, &rule.step)?;
+    facts.drop_common(end.facts());
+    Ok(facts)
+}
+
 // The rule, where it closes.
 fn tested(
     alloc: Global,
@@ -251,6 +273,21 @@ pub(crate) fn ending(alloc: Global, rule: &Rule, end: &State) -> Result<Option<E
             Ok(closed) => Ok(Some(Ended::Closes(closed))),
             Err(why) => Err(why),
         },
+    }
+}
+
+/// Why a rule comes to nothing; none where it comes to something.
+pub(crate) fn why_not(ended: Result<Option<Ended>, Refusal>) -> Result<Option<Why>, NoMemory>
+    ensures done { IfOk ended (λ e. result ≡ okay none) }
+    ensures cause { IfErr ended (λ f. TellsWhy f result) }
+{
+    match ended {
+        Ok(ended) => {
+            let _ended = ended;
+            Ok(None)
+        }
+        Err(Refusal::Because(why)) => Ok(Some(why)),
+        Err(Refusal::NoMemory) => Err(NoMemory),
     }
 }
 

@@ -1,23 +1,28 @@
 //! A walk: the rules of a derivation, applied one by one.
-ghost use Rattle.std.specs.Prelude.{◌≡◌, ◌≢◌, ◌<◌, [], IfOk, IfErr, Ok as okay, OnErr, option_map, vec_capacity, vec_len};
+ghost use Rattle.std.specs.Prelude.{◌≡◌, ◌≢◌, ◌<◌, [], IfOk, IfErr, IfSome, Ok as okay, Some as some, OnErr, length, option_map, vec_capacity, vec_len};
+ghost use Rattle.std.specs.Option.{option_copied};
 ghost use Rattle.brisk_seq.specs.Items.{◌followed_by◌};
 ghost use Rattle.brisk_seq.specs.Seen.{item_of, items_of};
 ghost use Rattle.brisk_syntax.specs.WellTyped.{IsProgramWellTyped};
 ghost use Rattle.brisk_derivation.specs.Seen.{step_of};
-ghost use Rattle.brisk_loops.specs.Walk.{back as given_up, basic as applied_by, enter as entered_by, finish as finished_by, follows, leave as left_by, other as other_of, rewind as rewound, start};
+ghost use Rattle.brisk_loops.specs.Walk.{back as given_up, basic as applied_by, enter as entered_by, finish as finished_by, follows, leave as left_by, other as other_of, premise_at, rewind as rewound, rule_at, start};
+ghost use Rattle.brisk_loops.specs.LeaveSeen.{Closes, lost_by};
+ghost use Rattle.brisk_rules.specs.Rules.{Entered};
+ghost use Rattle.brisk_rules.specs.Standing.{fault_aside as aside_of};
 ghost use Rattle.brisk_rules.specs.Derives.{apply_quietly, first_unfinished as unfinished_in, items_in, rule_of as rule_by};
-ghost use Rattle.brisk_loops.specs.WalkSeen.{Fails, Gives, fault_by};
+ghost use Rattle.brisk_loops.specs.WalkSeen.{Fails, Gives, fault_by, refused_by};
 ghost use Rattle.brisk_loops.specs.declared.rule.Side.TheVariants.{Second as second};
 
 use crate::copies::{copy_body, declared};
 use crate::enter::{alone, refused, second_start, start_of, told, told_first};
 use crate::fault::AcceptFault;
-use crate::leave::{ending, left};
+use crate::leave::{Closing, closing_of, ending, fault_aside, left, lost, why_not};
 use crate::pieces::loose_fault;
 use crate::rest::has_code;
 use crate::rule::{Rule, Side};
 use brisk_basic::{Basic, apply, refusal};
 use brisk_derivation::{BasicStep, SideFault, Step};
+use brisk_facts::Facts;
 use brisk_rules::Why;
 use brisk_seq::{Body, Seq, SeqProgram};
 use brisk_state::{State, Thread};
@@ -92,28 +97,53 @@ impl Walk {
     }
 
     /// How many rules are entered.
-    pub fn depth(&self) -> usize {
+    pub fn depth(&self) -> usize
+        ensures { result ≡ length self.now.entered }
+    {
         self.rules.len()
     }
 
     /// The state before a rule was entered, where this many rules stood around it.
-    pub fn before(&self, depth: usize) -> Option<&State> {
+    pub fn before(&self, depth: usize) -> Option<&State>
+        ensures { option_copied result ≡ option_map (λ o. o.state) (rule_at self.now.entered depth) }
+    {
         match self.rules.get(depth) {
             None => None,
             Some(rule) => Some(&rule.state),
         }
     }
 
-    /// The state at the end of the first side, in the second side of a branch.
-    pub fn first_end(&self) -> Option<&State> {
-        match self.rules.last() {
-            Some(
-                Rule {
-                    side: Side::Second(state, _),
-                    ..
-                },
-            ) => Some(state),
-            _ => None,
+    /// What its close needs of a rule with one premise, where this many rules stand around it.
+    pub fn closing(&self, around: usize) -> Result<Option<Closing>, NoMemory>
+        ensures { (r : Entered) → premise_at self.now.entered around ≡ some r → IfOk result (λ k. IfSome k (λ k. Closes k r)) }
+    {
+        match self.rules.get(around) {
+            None => Ok(None),
+            Some(rule) => closing_of(self.alloc, &rule.step, &rule.state),
+        }
+    }
+
+    /// The first test of that rule's close that fails here, facts aside.
+    pub fn fault_aside(
+        &self,
+        around: usize,
+        closing: &Closing,
+    ) -> Result<Option<SideFault>, NoMemory>
+        ensures { (r : Entered) → premise_at self.now.entered around ≡ some r → Closes closing.now r → IfOk result (λ o. o ≡ aside_of r self.now.state) }
+    {
+        match self.rules.get(around) {
+            None => Ok(None),
+            Some(rule) => fault_aside(self.alloc, closing, &rule.state, &self.state),
+        }
+    }
+
+    /// What is known where the close of that rule asks for it, and isn't known here any more.
+    pub fn lost(&self, around: usize, closing: &Closing) -> Result<Facts, NoMemory>
+        ensures { (r : Entered) → premise_at self.now.entered around ≡ some r → Closes closing.now r → IfOk result (λ f. f ≡ lost_by r self.now.state) }
+    {
+        match self.rules.get(around) {
+            None => Ok(Facts::new(self.alloc)),
+            Some(rule) => lost(&closing.kind, rule, &self.state),
         }
     }
 
@@ -299,6 +329,16 @@ impl Walk {
                 Ok(())
             }
         }
+    }
+
+    /// Why the innermost rule can't be closed here; none where it can. Nothing changes.
+    pub fn close_refusal(&self) -> Result<Option<Why>, NoMemory>
+        ensures { IfOk result (λ o. o ≡ refused_by (left_by self.now)) }
+    {
+        let Some((rule, _)) = self.rules.split_last() else {
+            return Ok(None);
+        };
+        why_not(ending(self.alloc, rule, &self.state))
     }
 
     /// The sequential program of a walk to the end.

@@ -7,7 +7,7 @@ use Rattle.std.specs.List.{list_all}
 use Rattle.unicode_ident.specs.Ident.{is_xid_continue}
 use Rattle.brisk_lex.specs.Tokens.{first, starts_name}
 use Rattle.brisk_lex.specs.Spelled.{is_identifier, is_numeral, IsName}
-use Rattle.brisk_lex.proofs.Ascii.{both, is_ascii_start, starts_ascii}
+use Rattle.brisk_lex.proofs.Ascii.{is_ascii_start, starts_ascii}
 use Rattle.brisk_lex.proofs.Printed.{read, before, decimal_is, mark_read}
 use Rattle.std.specs.Str.{chars, IsUtf8}
 use Rattle.std.proofs.lemmas.Bool.Decides.{leb_tells, nat_tests}
@@ -31,6 +31,7 @@ use Rattle.brisk_text.specs.Values as text
 use Rattle.brisk_print.specs.Layout as layout
 use Rattle.brisk_readback.specs.Legal.{AllLegal}
 use Rattle.brisk_readback.proofs.Texts.{Reads, Separates, is_low, low_first, all_ascii, legal_parts, space, solid, spaced, word, name, number, ◌then◌, ◌and◌, ◌joint◌, loosen, same_text, with_commas_read}
+use Rattle.brisk_values.proofs.Changes.{both_true}
 
 pub dot : Separates (codes ".") (spell.mark m.Dot)
 dot = record { reads = solid m.Dot refl (λ _. tt); ends = refl }
@@ -98,7 +99,7 @@ low_no_equals c b low other rest = ap (λ l. 61 == first l) (low_first c b rest 
 
 numeral_no_equals : (cs : List ℕ) → is_numeral cs ≡ true → (rest : List ℕ) → (61 == first (cs ++ rest)) ≡ false
 numeral_no_equals [] h rest = cc
-numeral_no_equals (c ∷ cs) h rest = let k = both (is_ascii_digit c) (list_all is_ascii_digit cs) h in grind (arith, nat_tests, k.0)
+numeral_no_equals (c ∷ cs) h rest = let k = both_true (is_ascii_digit c) (list_all is_ascii_digit cs) h in grind (arith, nat_tests, k.0)
 
 starts_no_equals : (c : ℕ) → starts_name c ≡ true → (61 == c) ≡ false
 starts_no_equals c h =
@@ -109,7 +110,7 @@ starts_no_equals c h =
 
 identifier_no_equals : (cs : List ℕ) → is_identifier cs ≡ true → (rest : List ℕ) → (61 == first (cs ++ rest)) ≡ false
 identifier_no_equals [] h rest = cc
-identifier_no_equals (c ∷ cs) h rest = starts_no_equals c (both (starts_name c) (list_all is_xid_continue cs) h).0
+identifier_no_equals (c ∷ cs) h rest = starts_no_equals c (both_true (starts_name c) (list_all is_xid_continue cs) h).0
 
 name_no_equals : (x : Name) → IsName x → NoEquals x
 name_no_equals x h = identifier_no_equals (chars x) h.1.1

@@ -17,11 +17,11 @@ use Rattle.brisk_lex.specs.declared.token.Token.{Token}
 use Rattle.brisk_lex.specs.declared.token.Token.TheVariants as t
 use Rattle.brisk_lex.specs.Tokens.{Text, tokens, tokens_of}
 use Rattle.brisk_lex.specs.Spelled.{mark_text, word_text}
-use Rattle.brisk_lex.proofs.Ascii.{both}
 use Rattle.brisk_lex.proofs.Printed.{read, before, Ends, MarkEnds, is_plain, plain_ends, digits_end, name_read, word_read, number_read, mark_read, tokens_read, space_read, newline_read}
 use Rattle.brisk_parse.specs.Spelling as spell
 use Rattle.brisk_print.specs.Layout.{behind_commas, with_commas, joined}
 use Rattle.brisk_readback.specs.Legal.{AllLegal}
+use Rattle.brisk_values.proofs.Changes.{both_true}
 
 -- tokens, and then those that are read after them
 abbrev pub all_before : List Token → Result (List Token) LexFault → Result (List Token) LexFault
@@ -50,8 +50,8 @@ is_low c = nat_lt c 128
 pub all_ascii : (b : List ℕ) → list_all is_low b ≡ true → IsAscii b
 all_ascii [] h zero = omega arith
 all_ascii [] h (suc i) = omega arith
-all_ascii (c ∷ b) h zero = let k = both (is_low c) (list_all is_low b) h in grind (arith, nat_tests, k.0)
-all_ascii (c ∷ b) h (suc i) = let k = both (is_low c) (list_all is_low b) h in all_ascii b k.1 i
+all_ascii (c ∷ b) h zero = let k = both_true (is_low c) (list_all is_low b) h in grind (arith, nat_tests, k.0)
+all_ascii (c ∷ b) h (suc i) = let k = both_true (is_low c) (list_all is_low b) h in all_ascii b k.1 i
 
 ascii_reads : (o : Bool) (b : List ℕ) (ts : List Token) → IsAscii b → ((n : ℕ) (rest : Text) → MayFollow o rest → read n (b ++ rest) ≡ all_before ts (read n rest)) → ReadAs o b ts
 ascii_reads o b ts h r = record { utf8 = IsUtf8-from_ascii b h; reads = λ n rest f. ap (λ l. read n (l ++ rest)) (chars-IsAscii b h) ∙ r n rest f }
@@ -131,7 +131,7 @@ unfolding chars
 names_end true [] rest h f = f
 names_end false [] rest h f = absurd (let k = h in cc)
 names_end o (c ∷ b) rest h f =
-    let low = (both (is_low c) (not (is_ascii_alphanumeric c || c == 95)) h).0 in
+    let low = (both_true (is_low c) (not (is_ascii_alphanumeric c || c == 95)) h).0 in
     rw (low_first c b rest low) (plain_ends c h)
 
 -- what is closed may stand where an end is open

@@ -29,6 +29,7 @@ use Rattle.brisk_schedule.specs.Laws.{ChoicesDiffer, SchedulesDiffer}
 use Rattle.brisk_instance.specs.Starting.{IsReady}
 use Rattle.brisk_schedule.specs.Texts.{AreChoicesFor, IsScheduleFor, IsTold, Sizes, choices_lines, event_line, input_line, instance_lines, is_sized, is_told, is_told_if, schedule_lines, size_line, written}
 use Rattle.brisk_schedule.proofs.Faultless.{same_lines}
+use Rattle.std.proofs.Math.Bool.{or-true}
 
 -- ---- what a line tells
 
@@ -95,12 +96,8 @@ input_is_told S e h = λ i. record { process = same_process_told S e.process h i
 
 -- ---- the processes of inputs are written without loss
 
-or_true : (b : Bool) → (b || true) ≡ true
-or_true true = refl
-or_true false = refl
-
 weaker : (n : Name) (e : Name × ℕ) (T : Sizes) → is_sized T n ≡ true → is_sized (e ∷ T) n ≡ true
-weaker n e T k = ap (λ b. same_name n e.0 || b) k ∙ or_true (same_name n e.0)
+weaker n e T k = ap (λ b. same_name n e.0 || b) k ∙ or-true (same_name n e.0)
 
 -- a set among these roles has a size
 abbrev AreSized : Sizes → List RoleText → Type 0
@@ -137,7 +134,7 @@ member_told : (S : Sizes) (r : RoleText) (b : Bool) (k count : ℕ) → r.many �
 member_told S r true k count e sized n less = ap (λ b. b || nat_eq k 0) (sized e)
 member_told S r false k count e sized n less =
     let none : k ≡ 0 = omega arith in
-    ap (λ j. is_sized S r.name || nat_eq j 0) none ∙ or_true (is_sized S r.name)
+    ap (λ j. is_sized S r.name || nat_eq j 0) none ∙ or-true (is_sized S r.name)
 
 role_told : (S : Sizes) (r : RoleText) → (r.many ≡ true → is_sized S r.name ≡ true) → AllByRecursion (IsSlotTold S) (role_slots (instance_with S) r)
 role_told S r sized =

@@ -16,6 +16,7 @@ use Rattle.brisk_seq.specs.Running.{Goes, Stops, capped, run_of}
 use Rattle.brisk_seq.specs.Sequential as spec
 use Rattle.brisk_seq.specs.Sequential.{Ended, Run, are_of_kinds, fill, is_of_kind, take, with_box}
 use Rattle.brisk_seq.proofs.Filling.{no_box, one_box}
+use Rattle.std.proofs.Math.Bool.{and-false}
 
 pub one_more : (k m n : ℕ) → m ≡ min (k + 1) (2 ^ 64 - 1) → k ≡ capped n → m ≡ capped (n + 1)
 one_more k m n e h = omega arith
@@ -91,8 +92,4 @@ pub unequal_kinds : (kind : Name → Option Kind) (xs : List Name) (vs : List Va
 unequal_kinds kind [] [] h = absurd (h refl)
 unequal_kinds kind [] (v ∷ vs) h = refl
 unequal_kinds kind (x ∷ xs) [] h = refl
-unequal_kinds kind (x ∷ xs) (v ∷ vs) h = ap (λ b. is_of_kind (kind x) v && b) (unequal_kinds kind xs vs (λ e. h (omega (arith, e)))) ∙ never (is_of_kind (kind x) v)
-  where
-    never : (b : Bool) → (b && false) ≡ false
-    never true = refl
-    never false = refl
+unequal_kinds kind (x ∷ xs) (v ∷ vs) h = ap (λ b. is_of_kind (kind x) v && b) (unequal_kinds kind xs vs (λ e. h (omega (arith, e)))) ∙ and-false (is_of_kind (kind x) v)

@@ -30,6 +30,7 @@ use Rattle.brisk_seq.specs.Sequential as spec
 use Rattle.brisk_seq.specs.Sequential.{Ended, Given, Run, do_all, ended, halted_with, seq}
 use Rattle.brisk_seq.specs.WellTyped.{IsSeqWellTyped, globals}
 use Rattle.brisk_seq.proofs.Evaluating.{tells_by}
+use Rattle.brisk_syntax.proofs.Codes.{distinct_later}
 
 some_left : (r : Run) (xs : List ℕ) (n : ℕ) → n < length xs → halted_with r (drop n xs) ≡ Err spec.ChoicesLeft
 some_left r [] n h = absurd (omega arith)
@@ -72,10 +73,6 @@ module _ (choices : List ℕ) (given : Given) (b : Items) (store : Entries) (box
 
   pub stopped : (f : SeqFault) → Stops choices first (do_all given b single) f → Tells (outcome given b (value_in store) choices turns) f
   stopped f stops = tells_by _ _ f from_start (tells_ended (do_all given b single (run_of choices 0 first)) f (stops 0 none_made))
-
-distinct_later : (xs ys : List Name) → are_distinct (xs ++ ys) ≡ true → are_distinct ys ≡ true
-distinct_later [] ys e = e
-distinct_later (x ∷ xs) ys e = distinct_later xs ys (both_true (not (is_among (xs ++ ys) x)) (are_distinct (xs ++ ys)) e).1
 
 -- the roles of a well-typed sequential program are apart
 pub seq_apart : (Q : SeqProgram) → IsSeqWellTyped Q → AreApart Q.roles

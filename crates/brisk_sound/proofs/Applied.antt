@@ -7,7 +7,7 @@ use Rattle.std.proofs.lemmas.Option.{same_Some}
 use Rattle.brisk_values.specs.declared.value.Value.{Value}
 use Rattle.brisk_values.specs.Functions.{changed}
 use Rattle.brisk_values.specs.Names.{Name, same_name}
-use Rattle.brisk_values.proofs.Changes.{exact_name, both_true}
+use Rattle.brisk_values.proofs.Changes.{exact_name, both_true, neither}
 use Rattle.brisk_syntax.specs.declared.tree.Who.{Who}
 use Rattle.brisk_syntax.specs.declared.tree.Who.TheVariants as who
 use Rattle.brisk_syntax.specs.Stores.{is_true}
@@ -29,10 +29,10 @@ use Rattle.brisk_basic.specs.Outcomes.{when}
 use Rattle.brisk_rules.specs.Rules.{mode_of}
 use Rattle.brisk_sound.proofs.After.{goes_on, after_assign, after_fill, after_take, after_pass}
 use Rattle.brisk_sound.proofs.Control.{sides}
-use Rattle.brisk_sound.proofs.Events.{false_or}
 use Rattle.brisk_sound.proofs.Lookups.{one_value, some_values, no_values, numbers_with}
 use Rattle.brisk_rules.proofs.Readings.{reading, is_active, has, stands_by}
 use Rattle.brisk_rules.proofs.Threads.{names, modes_with_code, codes_with_code, names_with_code, Moved, moved}
+use Rattle.std.proofs.lemmas.Bool.{not-true}
 
 pub at_code : {A : Type 0} (o : Option Code) (go : Code → Result A RuleFault) (a : A) → at_thread o go ≡ Ok a → (c : Code) × (o ≡ Some c) × (go c ≡ Ok a)
 at_code None go a e = cc
@@ -97,12 +97,8 @@ receives_from S t c code p e = cc
 unused : (n : ℕ) (pending : Pending) → is_in_use pending n ≡ false → (l : Key) → has n (numbers_at pending l) ≡ false
 unused n [] h l = refl
 unused n (e ∷ es) h l =
-    let f = false_or (has n e.1) (is_in_use es n) h in
+    let f = neither (has n e.1) (is_in_use es n) h in
     elim (eq_by_cmp key_cmp l e.0) as (λ b. has n (or_none (cond b (Some e.1) (find key_cmp l es))) ≡ false) [ true ↦ f.0 | false ↦ unused n es f.1 l ]
-
-not_true : (b : Bool) → not b ≡ true → b ≡ false
-not_true true e = cc
-not_true false e = refl
 
 assign_ok : (S : Symbolic) (t : Name) (c : Code) (r : Applied) → assign S t c ≡ Ok r →
     (x : Name) × (e : Expression) × (rest : Code) × (c ≡ Assign x e ⨾ rest)
@@ -194,7 +190,7 @@ module _ (S : Symbolic) where
             let k = when_ok (nat_le 1 n && nat_le n 1000000 && not (is_in_use S.pending n)) BoxInUse _ r g in
             let free = both_true (nat_le 1 n && nat_le n 1000000) (not (is_in_use S.pending n)) k.0 in
             subst (λ (z : Applied). Applies S z (rule.Fill t u C n)) (same_ok _ r k.1)
-            (fills t u C n p.0 s.0 p.1 m.active (m.stands ∙ s.1) s.2 (unused n S.pending (not_true (is_in_use S.pending n) free.1)) refl
+            (fills t u C n p.0 s.0 p.1 m.active (m.stands ∙ s.1) s.2 (unused n S.pending (not-true (is_in_use S.pending n) free.1)) refl
             (λ i. record {
               mode = modes_with_code t p.1 S.threads i;
               code = codes_with_code t p.1 S.threads m.mode m.there i;

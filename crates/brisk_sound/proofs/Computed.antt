@@ -20,6 +20,7 @@ use Rattle.brisk_async.specs.PlainRuns.{plain_instance, Deadlocks}
 use Rattle.brisk_async.proofs.Members.{role_cases, no_other}
 use Rattle.brisk_sound.specs.Samples.{A, B, M, ping_pong, ping_pong_in_order, crossed, maybe_empty_server}
 use Rattle.brisk_sound.specs.Examples.{Examples, values_after, values_in_order, all_inputs, greatest, whole, round_trip, ping_pong_places, of_one}
+use Rattle.std.proofs.Math.Bool.{and-false}
 
 wraps : values_after ping_pong (all_inputs greatest) round_trip ping_pong_places ≡ Some (whole greatest ∷ Some (value.Int (negsuc greatest)) ∷ whole greatest ∷ [])
 unfolding int_wrap
@@ -56,11 +57,7 @@ blocked s p (Recv c xs u ⨾ rest) empty (Some w) place = refl
 blocked s p (RecvAny c xs v set b ⨾ rest) empty None place = refl
 blocked s p (RecvAny c xs v set b ⨾ rest) empty (Some w) place =
     ap (λ t. if t then receives (seen_by s p) (queue w p c) xs (code_with v (who.Pid w) b then rest) place else None)
-    (ap (λ n. same_name set w.role && nat_lt w.member n) empty ∙ ap (λ t. same_name set w.role && t) (le-ltb w.member 0 (omega arith)) ∙ and_false (same_name set w.role))
-  where
-    and_false : (t : Bool) → (t && false) ≡ false
-    and_false true = refl
-    and_false false = refl
+    (ap (λ n. same_name set w.role && nat_lt w.member n) empty ∙ ap (λ t. same_name set w.role && t) (le-ltb w.member 0 (omega arith)) ∙ and-false (same_name set w.role))
 blocked s p (x ⨾ rest) h sender place = absurd h
 
 -- where a role has no process but p, the others are without code

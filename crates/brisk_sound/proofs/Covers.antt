@@ -30,6 +30,7 @@ use Rattle.brisk_rules.proofs.Readings.{Reading, is_active, who_by, code_by, sta
 use Rattle.brisk_sound.proofs.Resting.{heard}
 use Rattle.brisk_sound.proofs.Sound.{Typing}
 use Rattle.brisk_sound.proofs.Walks.{Test, whomever, under_for, hide, walk_by, Fewer, Le, unless_le, Keeps, keeps_for, walk_by_le}
+use Rattle.std.proofs.Math.Bool.{or-false}
 
 -- the code that stands behind each thread sends no more than what follows the thread says, to a thread and to any process
 pub record Covers (world : World) (T : Typing world) (mode : Name → Option Mode) (F : Follow) : Type 0 where
@@ -66,10 +67,6 @@ apart_by mode φ t u picks e = (λ i. same_name (picks.role_of t i) (picks.role_
 -- owners named alone
 abbrev pub one_owner : Name → Name → Bool
 one_owner t u = same_name u t || false
-
-or_none : (b : Bool) → (b || false) ≡ b
-or_none true = refl
-or_none false = refl
 
 -- pieces that a rule puts
 abbrev pub whole : Code → Piece
@@ -347,7 +344,7 @@ one_off : (t s : Name) → same_name s t ≡ false → one_owner t s ≡ false
 one_off t s e = ap (λ b. b || false) e
 
 one_on : (t u : Name) → one_owner t u ≡ true → u ≡ t
-one_on t u o = exact_name u t (sym (or_none (same_name u t)) ∙ o)
+one_on t u o = exact_name u t (sym (or-false (same_name u t)) ∙ o)
 
 module _ (S : Reading) (t : Name) (X : ℕ → Focus → Pid → Code → Code) where
   abbrev at_owner : ℕ → Focus → (Pid → Code) → Pid → Code
@@ -362,7 +359,7 @@ module _ (S : Reading) (t : Name) (X : ℕ → Focus → Pid → Code → Code) 
       apart : same_process (φ t) p ≡ false
       apart =
           ap (λ z. same_name z p.role && nat_eq (φ t).member p.member) (picks.role_of t)
-          ∙ ap (λ b. b && nat_eq (φ t).member p.member) (name_laws.symm t p.role ∙ sym (or_none (same_name p.role t)) ∙ o)
+          ∙ ap (λ b. b && nat_eq (φ t).member p.member) (name_laws.symm t p.role ∙ sym (or-false (same_name p.role t)) ∙ o)
 
 -- a gather
 pub covers_gather : (world : World) (T : Typing world) (S : Reading) (t : Name) (a : AnyReceive) (F F' : Follow) → Gathers S t a → ((r u : Name) → S.mode r ≡ Some Each → Free r (S.code u)) → Puts S.code (one_owner t) whole F F' → Covers world T S.mode F →

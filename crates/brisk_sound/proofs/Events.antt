@@ -6,7 +6,7 @@ use Rattle.brisk_values.specs.declared.value.Pid.{Pid}
 use Rattle.brisk_values.specs.declared.value.Value.{Value}
 use Rattle.brisk_values.specs.Functions.{changed}
 use Rattle.brisk_values.specs.Names.{Name, same_name, same_process}
-use Rattle.brisk_values.proofs.Changes.{name_laws, process_laws, exact_name, exact_process, changed-other, both_true}
+use Rattle.brisk_values.proofs.Changes.{name_laws, process_laws, exact_name, exact_process, changed-other, both_true, neither}
 use Rattle.brisk_syntax.specs.Syntax.{Code, ◌then◌}
 use Rattle.brisk_seq.specs.Sequential.{Boxes, Focus, with_box}
 use Rattle.brisk_async.specs.Machine.{Mail, Payload, Queue, same_queue, queue, without}
@@ -28,10 +28,6 @@ pub record Unique (pending : Key → List ℕ) : Type 0 where
 unique_head : (pending : Key → List ℕ) → Unique pending → (k : Key) (n : ℕ) (ns : List ℕ) → pending k ≡ n ∷ ns → has n ns ≡ false
 unique_head pending u k n ns e = (subst Distinct e (u.distinct k)).0
 
-pub false_or : (a b : Bool) → (a || b) ≡ false → (a ≡ false) × (b ≡ false)
-false_or true b e = cc
-false_or false b e = (refl, e)
-
 box_at : (n : ℕ) (p u : Pid) (b : Option (List Value)) (box : Boxes) (j : ℕ) (q r : Pid) (P : Option (List Value) → Type 0) →
     ((nat_eq n j && same_process p q && same_process u r) ≡ true → P b) → ((nat_eq n j && same_process p q && same_process u r) ≡ false → P (box j q r)) → P (with_box n p u b box j q r)
 box_at n p u b box j q r P here other =
@@ -47,7 +43,7 @@ third true false b e g h = cc
 unboxed : (n : ℕ) (p u : Pid) (b : Option (List Value)) (box : Boxes) (q r : Pid) (ns : List ℕ) → has n ns ≡ false → map (λ j. with_box n p u b box j q r) ns ≡ map (λ j. box j q r) ns
 unboxed n p u b box q r [] h = refl
 unboxed n p u b box q r (j ∷ ns) h =
-    let f = false_or (nat_eq n j) (has n ns) h in
+    let f = neither (nat_eq n j) (has n ns) h in
     λ i. (if (f.0 i && same_process p q && same_process u r) then b else box j q r) ∷ unboxed n p u b box q r ns f.1 i
 
 map-append : {A B : Type 0} (f : A → B) (xs : List A) (y : A) → map f (xs ++ y ∷ []) ≡ map f xs ++ f y ∷ []
@@ -55,8 +51,8 @@ map-append f [] y = refl
 map-append f (x ∷ xs) y = ap (λ l. f x ∷ l) (map-append f xs y)
 
 pub has-append : (j n : ℕ) (ns : List ℕ) → has j (ns ++ n ∷ []) ≡ false → (has j ns ≡ false) × (nat_eq j n ≡ false)
-has-append j n [] h = (refl, (false_or (nat_eq j n) false h).0)
-has-append j n (m ∷ ns) h = let f = false_or (nat_eq j m) (has j (ns ++ n ∷ [])) h in let g = has-append j n ns f.1 in (ap (λ b. b || has j ns) f.0 ∙ g.0, g.1)
+has-append j n [] h = (refl, (neither (nat_eq j n) false h).0)
+has-append j n (m ∷ ns) h = let f = neither (nat_eq j m) (has j (ns ++ n ∷ [])) h in let g = has-append j n ns f.1 in (ap (λ b. b || has j ns) f.0 ∙ g.0, g.1)
 
 cons_tail : {A : Type 0} (x y : A) (xs ys : List A) → x ∷ xs ≡ y ∷ ys → xs ≡ ys
 cons_tail x y xs ys e = cc

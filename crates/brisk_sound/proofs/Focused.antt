@@ -27,6 +27,7 @@ use Rattle.brisk_sound.proofs.Leads.{unchanged_at}
 use Rattle.brisk_sound.proofs.Middle.{focused}
 use Rattle.brisk_rules.proofs.Readings.{Reading, reading}
 use Rattle.brisk_rules.proofs.Threads.{names, modes, codes, names_with_code, modes_with_code, codes_with_code, names_with_mode, codes_with_mode, modes_with_mode}
+use Rattle.std.proofs.Math.Bool.{or-false}
 
 -- the name is in the list
 abbrev pub among : List Name → Name → Bool
@@ -49,12 +50,8 @@ all_among passed (t ∷ ts) u =
     all_among (with_test passed t) ts u ∙ ap (λ b. among ts u || b) (if_or (same_name t u) (same_name u t) (passed u) (name_laws.symm t u))
     ∙ or_swapped (among ts u) (same_name u t) (passed u)
 
-or_none : (b : Bool) → (b || false) ≡ b
-or_none true = refl
-or_none false = refl
-
 pub owners_among : (ts : List Name) (u : Name) → owners ts u ≡ among ts u
-owners_among ts u = all_among (λ _. false) ts u ∙ or_none (among ts u)
+owners_among ts u = all_among (λ _. false) ts u ∙ or-false (among ts u)
 
 -- each of the threads is there
 abbrev pub AllThere : (Name → Option Mode) → List Name → Type 0

@@ -14,6 +14,7 @@ use Rattle.brisk_quiet.specs.Sender.{Piece, is_binder, unsent, walk_later, is_ma
 use Rattle.brisk_sound.proofs.Free.{FreeWho, Free}
 use Rattle.brisk_rules.proofs.Readings.{stands_by}
 use Rattle.brisk_sound.proofs.Walks.{is_named, hide, Test, whomever, under_any, under_for, walk_by, hidden_is, walk_is, Fewer, Le, on_end_le, either_le, unless_le, fewer_trans, one_less_le, one_less_less, Keeps, recv_le, send_le, named_back, keeps_any, keeps_for, walk_by_le, walk_mono, walk_then}
+use Rattle.std.proofs.lemmas.Bool.{and_right}
 
 pub le_trans : (x y z : Walked) → Le x y → Le y z → Le x z
 le_trans Blocks y z l k = tt
@@ -125,10 +126,6 @@ not_named v w h names apart u e =
 or_false : (a b : Bool) → a ≡ false → b ≡ false → (a || b) ≡ false
 or_false a b e g = λ i. e i || g i
 
-and_no : (a b : Bool) → b ≡ false → (a && b) ≡ false
-and_no true b e = e
-and_no false b e = refl
-
 -- sends to a binder that aren't aimed at the receiver can be left out
 pub unsent_le : (v : Name) (from : Who → Bool) (t : Test) (h : Who → Who) (c : Name) (k : Code) (n m : Counts) → Keeps (whomever from) t h → Misses v t h → Fewer n m → Le (walk_by t c (code_map h k) n) (walk_by (whomever from) c (unsent v k) m)
 unsent_le v from t h c done n m w a l = l
@@ -159,7 +156,7 @@ unsent_le v from t h c (For x s j b ⨾ k) n m w a l =
     unless_le _ _ _ _
     (elim (same_name v x) as (λ z. same_name v x ≡ z → Le (walk_by (under_for x s j t) c (code_map h b) n) (walk_by (whomever (hide x from)) c (if z then b else unsent v b) m)) [
       | true ↦ λ e. walk_by_le (whomever (hide x from)) (under_for x s j t) h c b n m (keeps_for x s j (whomever from) t h w) l
-      | false ↦ λ e. unsent_le v (hide x from) (under_for x s j t) h c b n m (keeps_for x s j (whomever from) t h w) (λ u g. or_false _ _ (a u g) (and_no _ _ (not_named v x h w.names e u g))) l
+      | false ↦ λ e. unsent_le v (hide x from) (under_for x s j t) h c b n m (keeps_for x s j (whomever from) t h w) (λ u g. or_false _ _ (a u g) (and_right _ _ (not_named v x h w.names e u g))) l
     ] refl)
     (unsent_le v from t h c k n m w a l)
 unsent_le v from t h c (Repeat s j b ⨾ k) n m w a l = unless_le _ _ _ _ (unsent_le v from t h c b n m w a l) (unsent_le v from t h c k n m w a l)

@@ -1,7 +1,7 @@
 -- A for over a set, by owners.
 use Rattle.std.proofs.Common.{◌≡◌, ℕ, suc, zero, ◌+◌, Bool, true, false, List, [], ◌∷◌, ◌++◌, map, Option, Some, None, refl, sym, ap, ◌∙◌, subst, arith, nat_eq, zero-add, add-zero}
 use Rattle.std.specs.Prelude.{◌&&◌, ◌||◌, if◌then◌else◌, nat_lt}
-use Rattle.std.proofs.lemmas.Bool.{le-ltb, lt-ltb}
+use Rattle.std.proofs.lemmas.Bool.{le-ltb, lt-ltb, and_right}
 use Rattle.std.proofs.lemmas.Bool.Decides.{nat_tests}
 use Rattle.brisk_values.specs.declared.value.Pid.{Pid}
 use Rattle.brisk_values.specs.Names.{Name, same_name, same_process, single, member}
@@ -79,10 +79,6 @@ module _ (S : Reading) (s : Name) (ts : List Name) (L : Name → Loop) where
     pub owner : (t : Name) → owners ts t ≡ true → E.code t ≡ done
     pub code : (u : Name) → owners ts u ≡ false → same_name s u ≡ false → E.code u ≡ S.code u
 
-and_false : (b c : Bool) → c ≡ false → (b && c) ≡ false
-and_false true c e = e
-and_false false c e = refl
-
 if_const : {X : Type 0} (b : Bool) (x : X) → (if b then x else x) ≡ x
 if_const true x = refl
 if_const false x = refl
@@ -159,7 +155,7 @@ module _ (world : World) (T : Typing world) (S : Reading) (s : Name) (ts : List 
   }
     where
       none : (p : Pid) → served s (below 0) p ≡ false
-      none p = and_false (same_name s p.role) (nat_lt p.member 0) (le-ltb p.member 0 (omega arith))
+      none p = and_right (same_name s p.role) (nat_lt p.member 0) (le-ltb p.member 0 (omega arith))
 
       start : (u : Name) → at_turn S s ts L 0 u ≡ S.code u
       start u = elim (owners ts u) as (λ b. owners ts u ≡ b → (if b then For (L u).binder s 0 (L u).body ⨾ (L u).rest else S.code u) ≡ S.code u) [ true ↦ λ e. sym (entry.is u e) | false ↦ λ e. refl ] refl

@@ -42,6 +42,9 @@ use Rattle.brisk_sound.proofs.Outcomes.{steps_come}
 use Rattle.brisk_rules.proofs.Readings.{Reading, reading, is_active, stands_by}
 use Rattle.brisk_sound.proofs.Starts.{role_mode, first_mode, first_tidy}
 use Rattle.brisk_sound.proofs.Top.{stripped, same_decls, valid_is}
+use Rattle.std.proofs.Math.Bool.{or-true}
+use Rattle.std.proofs.lemmas.Bool.{not-true}
+use Rattle.brisk_syntax.proofs.Codes.{distinct_later}
 
 -- the sets among roles are the sets among roles without their codes
 stripped_set : (roles : List RoleText) (s : Name) → is_set (map without_code roles) s ≡ is_set roles s
@@ -130,7 +133,7 @@ module _ (P : Program) (X : Items) where
   more_focus focus mode s f = record {
     active = λ t a.
         elim (same_name s t) as (λ b. same_name s t ≡ b → is_active (if b then Some At else mode t) ≡ true → (is_single Q.roles t || (same_name t s || is_among focus t)) ≡ true) [
-          | true ↦ λ e g. (λ i. is_single Q.roles t || ((name_laws.symm t s ∙ e) i || is_among focus t)) ∙ or_true (is_single Q.roles t)
+          | true ↦ λ e g. (λ i. is_single Q.roles t || ((name_laws.symm t s ∙ e) i || is_among focus t)) ∙ or-true (is_single Q.roles t)
           | false ↦ λ e g. (λ i. is_single Q.roles t || ((name_laws.symm t s ∙ e) i || is_among focus t)) ∙ f.active t g
         ] refl a;
     each = λ r a.
@@ -139,10 +142,6 @@ module _ (P : Program) (X : Items) where
           | false ↦ λ e g. let h = f.each r g in (h.0, (λ i. (name_laws.symm r s ∙ e) i || is_among focus r) ∙ h.1)
         ] refl a;
   }
-    where
-      or_true : (b : Bool) → (b || true) ≡ true
-      or_true true = refl
-      or_true false = refl
 
   same_focus : (focus : List Name) (mode mode' : Name → Option Mode) → mode' ≡ mode → InFocus Q focus mode → InFocus Q focus mode'
   same_focus focus mode mode' e f = subst (InFocus Q focus) (sym e) f
@@ -255,18 +254,10 @@ fewer_among xs ys zs n e =
     by false false c e = e
 
 fewer_distinct : (xs ys zs : List Name) → are_distinct ((xs ++ ys) ++ zs) ≡ true → are_distinct ((xs ++ []) ++ zs) ≡ true
-fewer_distinct [] ys zs e = later ys zs e
-  where
-    later : (ys zs : List Name) → are_distinct (ys ++ zs) ≡ true → are_distinct zs ≡ true
-    later [] zs e = e
-    later (y ∷ ys) zs e = later ys zs (both_true (not (is_among (ys ++ zs) y)) (are_distinct (ys ++ zs)) e).1
+fewer_distinct [] ys zs e = distinct_later ys zs e
 fewer_distinct (x ∷ xs) ys zs e =
     let h = both_true (not (is_among ((xs ++ ys) ++ zs) x)) (are_distinct ((xs ++ ys) ++ zs)) e in
-    λ i. not (fewer_among xs ys zs x (not_true _ h.0) i) && fewer_distinct xs ys zs h.1 i
-  where
-    not_true : (b : Bool) → not b ≡ true → b ≡ false
-    not_true true e = cc
-    not_true false e = refl
+    λ i. not (fewer_among xs ys zs x (not-true _ h.0) i) && fewer_distinct xs ys zs h.1 i
 
 -- the program of a derivation, whatever its items
 module _ (P : Program) (typed : IsProgramWellTyped P) (X : Items) where

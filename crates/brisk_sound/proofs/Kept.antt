@@ -7,7 +7,7 @@ use Rattle.std.proofs.lemmas.Cmp.{nat_eq_equiv}
 use Rattle.brisk_values.specs.declared.value.Value.{Value}
 use Rattle.brisk_values.specs.Functions.{changed}
 use Rattle.brisk_values.specs.Names.{Name, same_name}
-use Rattle.brisk_values.proofs.Changes.{name_laws, exact_name}
+use Rattle.brisk_values.proofs.Changes.{name_laws, exact_name, neither}
 use Rattle.brisk_syntax.specs.declared.program.Decl.{Decl}
 use Rattle.brisk_syntax.specs.declared.program.Program.{Program}
 use Rattle.brisk_syntax.specs.declared.tree.Who.{Who}
@@ -25,11 +25,12 @@ use Rattle.brisk_basic.specs.Basic.{Applied}
 use Rattle.brisk_sound.proofs.Applied.{Applies, assigns, fills, takes, passes, knows_if, knows_while}
 use Rattle.brisk_sound.proofs.Branch.{parts}
 use Rattle.brisk_sound.proofs.Control.{Weaker, sides}
-use Rattle.brisk_sound.proofs.Events.{Distinct, Unique, false_or, exact_key}
+use Rattle.brisk_sound.proofs.Events.{Distinct, Unique, exact_key}
 use Rattle.brisk_sound.proofs.Fine.{FineStatement, Fine, fine_then}
 use Rattle.brisk_sound.proofs.Free.{FreeWho, FreeStatement, Free}
 use Rattle.brisk_sound.proofs.Middle.{focused}
 use Rattle.brisk_rules.proofs.Readings.{Reading, reading, has, stands_by}
+use Rattle.std.proofs.Math.Bool.{or-true}
 
 -- the declarations of a role by its name
 abbrev pub decls_by : Program → Name → List Decl
@@ -103,16 +104,16 @@ mutual
 distinct-append : (ns : List ℕ) (n : ℕ) → Distinct ns → has n ns ≡ false → Distinct (ns ++ n ∷ [])
 distinct-append [] n d h = (refl, tt)
 distinct-append (m ∷ ns) n d h =
-    let f = false_or (nat_eq n m) (has n ns) h in
+    let f = neither (nat_eq n m) (has n ns) h in
     (add ns d.0 (nat_eq_equiv.symm m n ∙ f.0), distinct-append ns n d.1 f.1)
   where
     add : (l : List ℕ) → has m l ≡ false → nat_eq m n ≡ false → has m (l ++ n ∷ []) ≡ false
     add [] a b = ap (λ t. t || false) b
-    add (j ∷ l) a b = let g = false_or (nat_eq m j) (has m l) a in ap (λ t. t || has m (l ++ n ∷ [])) g.0 ∙ add l g.1 b
+    add (j ∷ l) a b = let g = neither (nat_eq m j) (has m l) a in ap (λ t. t || has m (l ++ n ∷ [])) g.0 ∙ add l g.1 b
 
 has_in : (j n : ℕ) (ns : List ℕ) → has j ns ≡ false → nat_eq j n ≡ false → has j (ns ++ n ∷ []) ≡ false
 has_in j n [] a b = ap (λ t. t || false) b
-has_in j n (m ∷ ns) a b = let g = false_or (nat_eq j m) (has j ns) a in ap (λ t. t || has j (ns ++ n ∷ [])) g.0 ∙ has_in j n ns g.1 b
+has_in j n (m ∷ ns) a b = let g = neither (nat_eq j m) (has j ns) a in ap (λ t. t || has j (ns ++ n ∷ [])) g.0 ∙ has_in j n ns g.1 b
 
 unique_fill : (P : Key → List ℕ) (K : Key) (n : ℕ) → Unique P → ((k : Key) → has n (P k) ≡ false) → Unique (changed same_key P K (P K ++ n ∷ []))
 unique_fill P K n u unused = record { distinct = distinct; apart = apart }
@@ -152,19 +153,15 @@ unique_take P K n ns u e = record { distinct = distinct; apart = apart }
     distinct : (k : Key) → Distinct (changed same_key P K ns k)
     distinct k = elim (same_key K k) as (λ b. Distinct (if b then ns else P k)) [ true ↦ (subst Distinct e (u.distinct K)).1 | false ↦ u.distinct k ]
 
-    or_true : (b : Bool) → (b || true) ≡ true
-    or_true true = refl
-    or_true false = refl
-
     apart : (j : ℕ) (k l : Key) → has j (changed same_key P K ns k) ≡ true → same_key k l ≡ false → has j (changed same_key P K ns l) ≡ false
     apart j k l h d =
         elim (same_key K l) as (λ b. same_key K l ≡ b → has j (if b then ns else P l) ≡ false) [
           | true ↦ λ g. elim (same_key K k) as (λ b. same_key K k ≡ b → has j (if b then ns else P k) ≡ true → has j ns ≡ false) [
             | true ↦ λ f i. absurd (let x = same_as K k l f g in cc)
-            | false ↦ λ f i. (false_or (nat_eq j n) (has j ns) (ap (has j) (sym e) ∙ ap (λ z. has j (P z)) (exact_key K l g) ∙ u.apart j k l i d)).1
+            | false ↦ λ f i. (neither (nat_eq j n) (has j ns) (ap (has j) (sym e) ∙ ap (λ z. has j (P z)) (exact_key K l g) ∙ u.apart j k l i d)).1
           ] refl h
           | false ↦ λ g. elim (same_key K k) as (λ b. same_key K k ≡ b → has j (if b then ns else P k) ≡ true → has j (P l) ≡ false) [
-            | true ↦ λ f i. u.apart j K l (ap (has j) e ∙ ap (λ b. nat_eq j n || b) i ∙ or_true (nat_eq j n)) g
+            | true ↦ λ f i. u.apart j K l (ap (has j) e ∙ ap (λ b. nat_eq j n || b) i ∙ or-true (nat_eq j n)) g
             | false ↦ λ f i. u.apart j k l i d
           ] refl h
         ] refl

@@ -12,7 +12,7 @@ use Rattle.brisk_values.specs.Functions.{changed}
 use Rattle.brisk_values.specs.Names.{Name, same_name}
 use Rattle.brisk_values.specs.Operations.{applied1, applied2}
 use Rattle.brisk_values.specs.Values.{kind_of, same_kind, same_value}
-use Rattle.brisk_values.proofs.Changes.{exact_name}
+use Rattle.brisk_values.proofs.Changes.{exact_name, both_true, neither}
 use Rattle.brisk_syntax.specs.Syntax.{Expression, Var, Paren, Un, Bin}
 use Rattle.brisk_syntax.specs.Value.{or_false, value_of}
 use Rattle.brisk_facts.specs.Laws.{Agrees}
@@ -39,11 +39,6 @@ agrees_known own f x v h e y w =
       | false ↦ λ s g. h y w g
     ] refl
 
-and_true : (c d : Bool) → (c && d) ≡ true → (c ≡ true) × (d ≡ true)
-and_true true true e = (refl, refl)
-and_true true false e = cc
-and_true false d e = cc
-
 pub equal_values : (a b : Value) → same_value a b ≡ true → a ≡ b
 equal_values (value.Int m) (value.Int n) e = ap value.Int ((Decides-int_eq m n).0 e)
 equal_values (value.Bool p) (value.Bool q) e = ap value.Bool (same_bool p q e)
@@ -57,7 +52,7 @@ equal_values (value.Tag e t) (value.Tag f u) h =
     let b = both e f t u h in λ i. value.Tag (exact_name e f b.0 i) (exact_name t u b.1 i)
   where
     both : (e f t u : Name) → (same_name e f && same_name t u) ≡ true → (same_name e f ≡ true) × (same_name t u ≡ true)
-    both e f t u h = and_true (same_name e f) (same_name t u) h
+    both e f t u h = both_true (same_name e f) (same_name t u) h
 equal_values a b e = cc
 
 variable_value : (sizes : Name → ℕ) (own : Known) (e : Expression) (x : Name) → variable_in e ≡ Some x → value_of sizes own e ≡ or_false (own x)
@@ -78,10 +73,6 @@ equal_agrees own f a b None v None w h e i j k l = h
 unbool : (a b : Bool) → value.Bool a ≡ value.Bool b → a ≡ b
 unbool a b e = cc
 
-or_false_both : (c d : Bool) → (c || d) ≡ false → (c ≡ false) × (d ≡ false)
-or_false_both true d e = cc
-or_false_both false d e = (refl, e)
-
 not_not : (c b : Bool) → not c ≡ b → c ≡ not b
 not_not true b e = ap not e
 not_not false b e = ap not e
@@ -98,10 +89,10 @@ module _ (sizes : Name → ℕ) (own : Known) where
   learn_agrees f (Un Not e) b h s v =
       learn_agrees f e (not b) h s.0 (s.1.1 ∙ ap value.Bool (not_not s.1.0 b (unbool (not s.1.0) b (ap (applied1 Not) (sym s.1.1) ∙ v))))
   learn_agrees f (Bin And e g) true h s v =
-      let t = and_true s.2.0 s.3.0 (unbool _ true ((λ i. applied2 And (sym s.2.1 i) (sym s.3.1 i)) ∙ v)) in
+      let t = both_true s.2.0 s.3.0 (unbool _ true ((λ i. applied2 And (sym s.2.1 i) (sym s.3.1 i)) ∙ v)) in
       learn_agrees (learnt f e true) g true (learn_agrees f e true h s.0 (s.2.1 ∙ ap value.Bool t.0)) s.1 (s.3.1 ∙ ap value.Bool t.1)
   learn_agrees f (Bin Or e g) false h s v =
-      let t = or_false_both s.2.0 s.3.0 (unbool _ false ((λ i. applied2 Or (sym s.2.1 i) (sym s.3.1 i)) ∙ v)) in
+      let t = neither s.2.0 s.3.0 (unbool _ false ((λ i. applied2 Or (sym s.2.1 i) (sym s.3.1 i)) ∙ v)) in
       learn_agrees (learnt f e false) g false (learn_agrees f e false h s.0 (s.2.1 ∙ ap value.Bool t.0)) s.1 (s.3.1 ∙ ap value.Bool t.1)
   learn_agrees f (Bin Eq e g) true h s v = learn_equal_agrees f e g h (equal_values _ _ (unbool (same_value (value_of sizes own e) (value_of sizes own g)) true v))
   learn_agrees f (Bin Ne e g) false h s v =

@@ -1,7 +1,7 @@
 -- In the middle of a loop over a set: some members are served, and one comes next.
 use Rattle.std.proofs.Common.{◌≡◌, ℕ, map, Bool, true, false, List, Option, Some, None, refl, sym, ap, ◌∙◌, subst, nat_eq}
 use Rattle.std.specs.Prelude.{◌&&◌, ◌||◌, if◌then◌else◌, nat_lt}
-use Rattle.std.proofs.lemmas.Bool.{eqb-true}
+use Rattle.std.proofs.lemmas.Bool.{eqb-true, and_right}
 use Rattle.brisk_values.specs.declared.value.Pid.{Pid}
 use Rattle.brisk_values.specs.declared.value.Value.{Value}
 use Rattle.brisk_values.specs.Functions.{changed}
@@ -204,10 +204,6 @@ set_at S s E F = record {
   facts = λ u. if same_name s u then E.facts s else S.facts u;
 }
 
-and_false : (b c : Bool) → c ≡ false → (b && c) ≡ false
-and_false true c e = e
-and_false false c e = refl
-
 module _ (world : World) (S : Reading) (s : Name) (φ : Focus) (E : Reading) (set : S.mode s ≡ (Some thread_mode.Each)) (sv : Served) (F : Name → Code) (κ : Pid → Code) (c : Conf) where
   -- none is served at first
   pub none_served : ((j : ℕ) → sv j ≡ false) → S.code ≡ F → Fits world S κ φ c → Mid world S s φ E sv F κ c
@@ -219,7 +215,7 @@ module _ (world : World) (S : Reading) (s : Name) (φ : Focus) (E : Reading) (se
   }
     where
       none : (p : Pid) → served s sv p ≡ false
-      none p = and_false (same_name s p.role) (sv p.member) (nobody p.member)
+      none p = and_right (same_name s p.role) (sv p.member) (nobody p.member)
 
   -- all are served at last
   pub all_served : ((j : ℕ) → nat_lt j (world.given.sizes s) ≡ true → sv j ≡ true) → Closes S s E → Mid world S s φ E sv F κ c → Fits world (set_at S s E F) κ φ c

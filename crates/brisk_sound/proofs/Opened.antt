@@ -39,6 +39,8 @@ use Rattle.brisk_sound.proofs.Free.{Free}
 use Rattle.brisk_sound.proofs.Kept.{Kept, kept_then, kept_weaker, kept_for, free_with, Tidy}
 use Rattle.brisk_rules.proofs.Readings.{reading, is_active}
 use Rattle.brisk_rules.proofs.Threads.{names, modes, codes, Moved}
+use Rattle.std.proofs.Math.Bool.{or-true}
+use Rattle.std.proofs.lemmas.Bool.{not-true}
 
 -- the loop at which code stands
 abbrev loop_at : Code → Loop
@@ -84,10 +86,6 @@ module _ (S : Symbolic) (s : Name) where
   AllOwn before [] = Unit {0}
   AllOwn before (t ∷ ts) = Moved S.threads t (codes S.threads t) × StandsAt s (codes S.threads t) × (is_among before t ≡ false) × AllOwn (t ∷ before) ts
 
-  not_true : (b : Bool) → not b ≡ true → b ≡ false
-  not_true true e = cc
-  not_true false e = refl
-
   loops_own : (before ts : List Name) (ls : List heads.Loop) → loops_of S s before ts ≡ Ok ls → (ls ≡ map (λ t. as_head s (loop_of t)) ts) × AllOwn before ts
   loops_own before [] ls e = (sym (same_ok [] ls e), tt)
   loops_own before (t ∷ ts) ls e =
@@ -97,7 +95,7 @@ module _ (S : Symbolic) (s : Name) where
       let r = and_then_ok (loops_of S s (t ∷ before) ts) (λ ls. Ok (h.0 ∷ ls)) ls w.1 in
       let more = loops_own (t ∷ before) ts r.0 r.1 in (
         sym (same_ok (h.0 ∷ r.0) ls r.2) ∙ (λ i. (f.0 ∙ ap (λ c. as_head s (loop_at c)) (sym m.stands)) i ∷ more.0 i),
-        (record { mode = m.mode; there = m.there; active = m.active; stands = refl }, subst (StandsAt s) (sym m.stands) f.1, not_true (is_among before t) w.0, more.1),
+        (record { mode = m.mode; there = m.there; active = m.active; stands = refl }, subst (StandsAt s) (sym m.stands) f.1, not-true (is_among before t) w.0, more.1),
       )
 
   own_there : (before ts : List Name) → AllOwn before ts → AllThere (modes S.threads) ts
@@ -128,17 +126,13 @@ module _ (S : Symbolic) (s : Name) where
       at : (u : Name) → with_test (is_among before) t u ≡ is_among (t ∷ before) u
       at u = or_if (same_name t u) (same_name u t) (is_among before u) (name_laws.symm t u)
 
-  or_true : (b : Bool) → (b || true) ≡ true
-  or_true true = refl
-  or_true false = refl
-
   own_once : (wanted : Test) (before ts : List Name) → AllOwn before ts → ((u : Name) → among ts u ≡ true → wanted u ≡ true) → Once (modes S.threads) wanted (is_among before) ts
   own_once wanted before [] h w = tt
   own_once wanted before (t ∷ ts) h w = (
     h.0.active,
     h.2,
     w t (ap (λ b. b || among ts t) (name_laws.refl t)),
-    subst (λ (p : Test). Once (modes S.threads) wanted p ts) (sym (passed_more before t)) (own_once wanted (t ∷ before) ts h.3 (λ u a. w u (ap (λ b. same_name u t || b) a ∙ or_true (same_name u t)))),
+    subst (λ (p : Test). Once (modes S.threads) wanted p ts) (sym (passed_more before t)) (own_once wanted (t ∷ before) ts h.3 (λ u a. w u (ap (λ b. same_name u t || b) a ∙ or-true (same_name u t)))),
   )
 
 -- bodies and rests of loops as codes by name

@@ -32,10 +32,7 @@ use Rattle.brisk_rules.proofs.Readings.{Reading, is_active, is_each, stands_by, 
 use Rattle.brisk_sound.proofs.Resting.{heard, Resting, rest_kept}
 use Rattle.brisk_sound.proofs.Sound.{Typing, Sound}
 use Rattle.brisk_sound.proofs.Walks.{whomever, walk_by, Calm, calm_le, Keeps, walk_by_le}
-
-pub then_done : (k : Code) → k then done ≡ k
-then_done done = refl
-then_done (x ⨾ k) = ap (λ z. x ⨾ z) (then_done k)
+use Rattle.brisk_syntax.proofs.Codes.{then-done}
 
 -- the last two tests of a gather's close
 pub record IsQuiet (S : Reading) (t : Name) (a : AnyReceive) (E : Reading) : Type 0 where
@@ -97,7 +94,7 @@ module _ (world : World) (T : Typing world) (S : Reading) (t : Name) (a : AnyRec
     code_is : begun.code w ≡ code_by φ (E.code s)
     code_is =
         changed-other process_laws c.code p A w (apart m) ∙ mid.code w (live_member m inside) ∙ (λ i. code_by φ (if is_served i then E.code s else F s) then κ w)
-        ∙ (λ i. code_by φ (E.code s) then mid.sets w (live_member m inside) (ap is_each entry.set) i) ∙ then_done (code_by φ (E.code s))
+        ∙ (λ i. code_by φ (E.code s) then mid.sets w (live_member m inside) (ap is_each entry.set) i) ∙ then-done (code_by φ (E.code s))
 
     to_member : (D : Name) → length (E.pending (key t s D)) ≡ length (c.mail (queue p w D))
     to_member D =

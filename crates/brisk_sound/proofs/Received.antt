@@ -48,6 +48,7 @@ use Rattle.brisk_sound.proofs.Quiet.{IsQuiet}
 use Rattle.brisk_rules.proofs.Readings.{Reading, reading, stands_by}
 use Rattle.brisk_rules.proofs.Threads.{names, modes, codes, Moved}
 use Rattle.brisk_sound.proofs.Walks.{whomever, walk_by, Calm, walk_is}
+use Rattle.std.proofs.Math.Bool.{or-true}
 
 not_focused_ok : {A : Type 0} (m : Option Mode) (more : Outcome A) (a : A) → not_focused m more ≡ Ok a → (is_set_mode m ≡ true → m ≡ Some Each) × (more ≡ Ok a)
 not_focused_ok None more a e = (λ s. cc, e)
@@ -345,7 +346,7 @@ module _ (P : Program) (S : Symbolic) (t : Name) (a : AnyReceive) (c : Code) (m 
         owner = owner_finished;
         member_code = stands_still P S a.set (t ∷ []) (λ u. from_focus a) (λ u. a.rest) drops (rules.Pick a.set) set pick_there pick_apart E S' named kept k a.set looked pick_apart;
         mail_from = λ u C. mail_still P S a.set (t ∷ []) (λ u. from_focus a) (λ u. a.rest) drops (rules.Pick a.set) set pick_there pick_apart E S' named kept k (key a.set u C) (ap (λ b. b || same_name a.set u) looked);
-        mail_to = λ u C. mail_still P S a.set (t ∷ []) (λ u. from_focus a) (λ u. a.rest) drops (rules.Pick a.set) set pick_there pick_apart E S' named kept k (key u a.set C) (ap (λ b. same_name a.set u || b) looked ∙ or_true (same_name a.set u));
+        mail_to = λ u C. mail_still P S a.set (t ∷ []) (λ u. from_focus a) (λ u. a.rest) drops (rules.Pick a.set) set pick_there pick_apart E S' named kept k (key u a.set C) (ap (λ b. same_name a.set u || b) looked ∙ or-true (same_name a.set u));
         facts = λ x v e. facts_still P S a.set (t ∷ []) (λ u. from_focus a) (λ u. a.rest) drops (rules.Pick a.set) set pick_there pick_apart E S' named kept k a.set x v looked e;
         free = λ u.
             elim (same_name t u) as (λ b. same_name t u ≡ b → Free a.set (codes E.threads u)) [
@@ -355,10 +356,6 @@ module _ (P : Program) (S : Symbolic) (t : Name) (a : AnyReceive) (c : Code) (m 
       };
       next = pick_next;
     }
-      where
-        or_true : (b : Bool) → (b || true) ≡ true
-        or_true true = refl
-        or_true false = refl
 
 pub pick_opens : (P : Program) (S : Symbolic) (t : Name) (drops : List Fact) (r : Entered) → enter_pick P S t drops ≡ Ok r →
     (a : AnyReceive) × (is_nonempty P a.set ≡ true) × Opens P S r (λ E S'. Pickings S r.start E S' t a) (item.Pick a.set) (one_owner t) rest_piece

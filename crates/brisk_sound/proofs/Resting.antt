@@ -1,7 +1,7 @@
 -- A member that is quiet stays so while the receiver does nothing.
 use Rattle.std.proofs.Common.{◌≡◌, ℕ, zero, suc, ◌+◌, ◌-◌, ◌≤◌, Bool, true, false, List, [], ◌∷◌, ◌++◌, length, Option, Some, None, refl, sym, ap, ◌∙◌, subst, arith}
 use Rattle.std.specs.Prelude.{if◌then◌else◌, ◌&&◌, ◌||◌, not, nat_lt, nat_le, option_and_then}
-use Rattle.std.proofs.lemmas.Bool.{le-leb, leb-true}
+use Rattle.std.proofs.lemmas.Bool.{le-leb, leb-true, and_right, not-true}
 use Rattle.brisk_values.specs.declared.value.Pid.{Pid}
 use Rattle.brisk_values.specs.Names.{Name, same_name, same_process, member}
 use Rattle.brisk_values.proofs.Changes.{name_laws, process_laws, exact_name, exact_process, both_true, changed-other, changed-same, apart_symm, changed_cases}
@@ -20,10 +20,7 @@ use Rattle.brisk_async.proofs.Senders.{kept_before}
 use Rattle.brisk_async.specs.Laws.{count}
 use Rattle.brisk_quiet.specs.Quiet.{Counts, Walked, Blocks, Ends, Sends, on_end, either, unless_sends, if_any, one_less}
 use Rattle.brisk_sound.proofs.Walks.{is_named, hide, Test, under_any, under_for, walk_by, Fewer, Le, Calm, calm_le, on_end_le, either_le, fewer_trans, Keeps, or_keeps, and_keeps, walk_by_le, code_same, walk_mono, walk_then, Bounded, walk_bounded}
-
-and_end : (a b : Bool) → b ≡ false → (a && b) ≡ false
-and_end true b e = e
-and_end false b e = refl
+use Rattle.std.proofs.Math.Bool.{or-true}
 
 if_calm : (b : Bool) (x : Walked) → Calm (if b then Sends else x) → (b ≡ false) × Calm x
 if_calm true x h = absurd h
@@ -53,12 +50,8 @@ calm_both (Ends n) y h k = k
 
 -- a member in the place of a binder
 module _ (t : Test) (v : Name) (w : Pid) where
-  unnamed : (b : Bool) → not b ≡ true → b ≡ false
-  unnamed true e = cc
-  unnamed false e = refl
-
   stays_with : (u : Who) → hide v t.from u ≡ true → t.from (who_with v (who.Pid w) u) ≡ true
-  stays_with (who.Name n) e = let b = both_true (t.from (who.Name n)) (not (same_name v n)) e in ap (λ z. t.from (if z then who.Pid w else who.Name n)) (unnamed (same_name v n) b.1) ∙ b.0
+  stays_with (who.Name n) e = let b = both_true (t.from (who.Name n)) (not (same_name v n)) e in ap (λ z. t.from (if z then who.Pid w else who.Name n)) (not-true (same_name v n) b.1) ∙ b.0
   stays_with (who.At s) e = (both_true (t.from (who.At s)) true e).0
   stays_with (who.Pid p) e = (both_true (t.from (who.Pid p)) true e).0
 
@@ -71,13 +64,9 @@ module _ (t : Test) (v : Name) (w : Pid) where
   aims_with : (c : Bool) → (t.aims (who.Pid w) ≡ true → c ≡ true) → (u : Who) → t.aims (who_with v (who.Pid w) u) ≡ true → (t.aims u || (c && is_named v u)) ≡ true
   aims_with c f (who.Name n) e =
       elim (same_name v n) as (λ b. t.aims (if b then who.Pid w else who.Name n) ≡ true → (t.aims (who.Name n) || (c && b)) ≡ true) [
-        | true ↦ λ g. ap (λ b. t.aims (who.Name n) || (b && true)) (f g) ∙ or_true (t.aims (who.Name n))
+        | true ↦ λ g. ap (λ b. t.aims (who.Name n) || (b && true)) (f g) ∙ or-true (t.aims (who.Name n))
         | false ↦ λ g. ap (λ b. b || (c && false)) g
       ] e
-    where
-      or_true : (b : Bool) → (b || true) ≡ true
-      or_true true = refl
-      or_true false = refl
   aims_with c f (who.At s) e = ap (λ b. b || (c && false)) e
   aims_with c f (who.Pid p) e = ap (λ b. b || (c && false)) e
 
@@ -262,7 +251,7 @@ module _ (p w : Pid) (C : Name) where
   mail_kept q (appended j m) mail K own a b = ap (λ t. if (t && same_process j.to K.to && same_name j.channel K.channel) then mail j ++ m ∷ [] else mail K) (ap (λ z. same_process z K.from) own ∙ a)
   mail_kept q (taken j k) mail K own a b =
       ap (λ t. if t then without (mail j) k else mail K)
-      ((λ i. same_process j.from K.from && (ap (λ z. same_process z K.to) own.0 ∙ b) i && same_name j.channel K.channel) ∙ ap (λ t. t && same_name j.channel K.channel) (and_end (same_process j.from K.from) false refl))
+      ((λ i. same_process j.from K.from && (ap (λ z. same_process z K.to) own.0 ∙ b) i && same_name j.channel K.channel) ∙ ap (λ t. t && same_name j.channel K.channel) (and_right (same_process j.from K.from) false refl))
 
   module _ (apart : same_process p w ≡ false) (ms : List Payload) where
     abbrev own_event_of : Option Pid → Option ℕ → Event
@@ -301,7 +290,7 @@ module _ (p w : Pid) (C : Name) where
         still_waits (appended j m) own s = ap (λ t. if t then y.mail j ++ m ∷ [] else y.mail (queue w p C)) s
         still_waits (taken j k) own s =
             ap (λ t. if t then without (y.mail j) k else y.mail (queue w p C))
-            ((λ i. same_process j.from w && (ap (λ z. same_process z p) own.0 ∙ apart_symm process_laws p w apart) i && same_name j.channel C) ∙ ap (λ t. t && same_name j.channel C) (and_end (same_process j.from w) false refl))
+            ((λ i. same_process j.from w && (ap (λ z. same_process z p) own.0 ∙ apart_symm process_laws p w apart) i && same_name j.channel C) ∙ ap (λ t. t && same_name j.channel C) (and_right (same_process j.from w) false refl))
 
     pub rest_kept : (y y' : State) (f : Event) → same_process p f.process ≡ false → Resting ms y → step y f ≡ Some y' → Resting ms y'
     rest_kept y y' f other r h =

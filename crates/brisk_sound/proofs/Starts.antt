@@ -2,7 +2,7 @@
 use Rattle.std.proofs.Common.{◌≡◌, Bool, true, false, List, [], ◌∷◌, ◌++◌, map, Option, Some, None, refl, sym, ap, ◌∙◌, subst, arith}
 use Rattle.std.specs.List.{AllByRecursion, list_any}
 use Rattle.std.specs.Prelude.{if◌then◌else◌, ◌&&◌, ◌||◌, ◌≤◌, not, nat_lt, option_map}
-use Rattle.std.proofs.lemmas.Bool.{lt-ltb}
+use Rattle.std.proofs.lemmas.Bool.{lt-ltb, not-true}
 use Rattle.std.proofs.lemmas.Option.{same_Some}
 use Rattle.brisk_values.specs.declared.value.Pid.{Pid}
 use Rattle.brisk_values.specs.declared.value.Value.{Value}
@@ -32,6 +32,7 @@ use Rattle.brisk_sound.proofs.Free.{FreeWho, FreeStatement, Free}
 use Rattle.brisk_sound.proofs.Kept.{Tidy, is_set_mode, decls_by}
 use Rattle.brisk_sound.proofs.Lookups.{one_value}
 use Rattle.brisk_rules.proofs.Readings.{reading, who_by, statement_by, code_by}
+use Rattle.brisk_syntax.proofs.Codes.{distinct_later}
 
 -- the first thread of a role
 first_named : (roles : List RoleText) (u : Name) → thread_named (map first_thread roles) u ≡ option_map first_thread (role_named roles u)
@@ -58,17 +59,8 @@ first_code P u = ap code_in (first_named P.roles u) ∙ by (role_named P.roles u
     by None = refl
     by (Some r) = refl
 
--- of names that differ, the later ones do
-distinct_later : (xs ys : List Name) → are_distinct (xs ++ ys) ≡ true → are_distinct ys ≡ true
-distinct_later [] ys e = e
-distinct_later (x ∷ xs) ys e = distinct_later xs ys (both_true (not (is_among (xs ++ ys) x)) (are_distinct (xs ++ ys)) e).1
-
 pub roles_distinct : (P : Program) → IsProgramWellTyped P → are_distinct (map (λ (r : RoleText). r.name) P.roles) ≡ true
 roles_distinct P typed = distinct_later (map (λ e. e.name) P.enums ++ map (λ c. c.name) P.channels) (map (λ (r : RoleText). r.name) P.roles) typed.names
-
-not_true : (b : Bool) → not b ≡ true → b ≡ false
-not_true true e = cc
-not_true false e = refl
 
 -- a name that no role has
 none_named : (roles : List RoleText) (u : Name) → is_among (map (λ (r : RoleText). r.name) roles) u ≡ false → role_named roles u ≡ None
@@ -87,7 +79,7 @@ the_named (r ∷ rs) s test d its e =
       | false ↦ λ t g.
           let x = the_named rs s test h.1 its g in
           elim (same_name s r.name) as (λ b. same_name s r.name ≡ b → (q : RoleText) × ((if b then Some r else role_named rs s) ≡ Some q) × (test q ≡ true)) [
-            | true ↦ λ k. absurd (let n = none_named rs s (ap (is_among (map (λ (r : RoleText). r.name) rs)) (exact_name s r.name k) ∙ not_true _ h.0) in let w = sym n ∙ x.1 in cc)
+            | true ↦ λ k. absurd (let n = none_named rs s (ap (is_among (map (λ (r : RoleText). r.name) rs)) (exact_name s r.name k) ∙ not-true _ h.0) in let w = sym n ∙ x.1 in cc)
             | false ↦ λ k. x
           ] refl
     ] refl e
@@ -228,7 +220,7 @@ module _ (i : Instance) (p : Pid) (at : Name) where
   declared (decl.Input y k ∷ ds) F x v d none e =
       let h = both_true (not (is_among (map variable_of ds) y)) (are_distinct (map variable_of ds)) d in
       elim (same_name x y) as (λ b. same_name x y ≡ b → (if b then Some (i.input p y) else first_value i p ds x) ≡ Some v) [
-        | true ↦ λ k. absurd (let g = undeclared ds F x (ap (is_among (map variable_of ds)) (exact_name x y k) ∙ not_true _ h.0) in let w = sym none ∙ sym g ∙ e in cc)
+        | true ↦ λ k. absurd (let g = undeclared ds F x (ap (is_among (map variable_of ds)) (exact_name x y k) ∙ not-true _ h.0) in let w = sym none ∙ sym g ∙ e in cc)
         | false ↦ λ k. declared ds F x v h.1 none e
       ] refl
 
@@ -239,7 +231,7 @@ known_role P i p (r ∷ rs) u x v d t e =
     let h = both_true (not (is_among (map (λ (r : RoleText). r.name) rs) r.name)) (are_distinct (map (λ (r : RoleText). r.name) rs)) d in
     elim (same_name u r.name) as (λ b. same_name u r.name ≡ b → first_value i p (decls_of (if b then Some r else role_named rs u)) x ≡ Some v) [
       | true ↦ λ k.
-          declared i p r.name r.decls (all_first_facts rs) x v t.0.decls.apart (no_facts rs r.name x (not_true _ h.0)) (ap (λ z. fact (all_first_facts (r ∷ rs)) z x) (sym (exact_name u r.name k)) ∙ e)
+          declared i p r.name r.decls (all_first_facts rs) x v t.0.decls.apart (no_facts rs r.name x (not-true _ h.0)) (ap (λ z. fact (all_first_facts (r ∷ rs)) z x) (sym (exact_name u r.name k)) ∙ e)
       | false ↦ λ k. known_role P i p rs u x v h.1 t.1 (sym (other_facts r.name r.decls (all_first_facts rs) u x (name_laws.symm r.name u ∙ k)) ∙ e)
     ] refl
 

@@ -21,6 +21,7 @@ use Rattle.brisk_rules.specs.Following.{Follow, quiet_from, behind_head, loose_f
 use Rattle.brisk_rules.proofs.Fulfilled.{and_then_ok, told_ok}
 use Rattle.brisk_sound.proofs.Outcomes.{no_fault}
 use Rattle.brisk_rules.specs.Rules.{Outcome, fault_or, unless, first_fault, code_in, enter_while, enter_for, enter_repeat, enter_gather, enter_pick, enter_branch}
+use Rattle.std.proofs.Math.Bool.{and-false}
 
 -- no channel is loose
 abbrev pub IsStrict : Program → Type 0
@@ -31,12 +32,8 @@ none_loose [] e c = refl
 none_loose (d ∷ ds) e c =
     elim d.loose as (λ b. not (b || list_any (λ d. d.loose) ds) ≡ true → ((same_name c d.name && b) || is_loose ds c) ≡ false) [
       | true ↦ λ g. cc
-      | false ↦ λ g. ap (λ b. b || is_loose ds c) (no_and (same_name c d.name)) ∙ none_loose ds g c
+      | false ↦ λ g. ap (λ b. b || is_loose ds c) (and-false (same_name c d.name)) ∙ none_loose ds g c
     ] e
-  where
-    no_and : (b : Bool) → (b && false) ≡ false
-    no_and true = refl
-    no_and false = refl
 
 pub never_faults : (P : Program) → IsStrict P → (F : Follow) (S : Symbolic) (b : BasicRule) → loose_fault P F S b ≡ None
 never_faults P strict F S (rule.Take t u c) =

@@ -42,13 +42,13 @@ use Rattle.brisk_sound.proofs.Fits.{World, Conf, mem, live, Picks}
 use Rattle.brisk_sound.proofs.Leads.{state}
 use Rattle.brisk_sound.proofs.Link.{ends_done}
 use Rattle.brisk_sound.proofs.Outcomes.{steps_come}
-use Rattle.brisk_sound.proofs.Quiet.{then_done}
 use Rattle.brisk_rules.proofs.Readings.{Reading, reading, is_active, is_each, denoted, code_by}
 use Rattle.brisk_sound.proofs.Sound.{Typing, Sound, Arrives}
 use Rattle.brisk_sound.proofs.Starts.{role_mode, first_mode, first_code, first_plain, first_tidy, first_known, some_member}
 use Rattle.brisk_sound.proofs.Steps.{steps_sound}
 use Rattle.brisk_rules.proofs.Threads.{codes}
 use Rattle.brisk_sound.proofs.Typed.{still_none, none_still, given_in, world_of, typing, is_typed}
+use Rattle.brisk_syntax.proofs.Codes.{then-done}
 
 -- whether a process is denoted at first, by its role
 abbrev is_there : Instance → Pid → Option RoleText → Bool
@@ -111,7 +111,7 @@ module _ (P : Program) (typed : IsProgramWellTyped P) (i : Instance) (fitting : 
   -- the start of the instance fits the initial state
   pub first_fits : fits.Fits world S0 nothing_behind single c0
   first_fits = record {
-    code = λ p l. ap declarations.code_in (role_there p l) ∙ sym (first_code P p.role) ∙ sym (first_plain P typed single p.role) ∙ sym (then_done (code_by single (S0.code p.role)));
+    code = λ p l. ap declarations.code_in (role_there p l) ∙ sym (first_code P p.role) ∙ sym (first_plain P typed single p.role) ∙ sym (then-done (code_by single (S0.code p.role)));
     mail = λ p q l k C. refl;
     empty = λ p q l k n h. refl;
     facts = λ p l x v e. ap or_false (ap (λ o. first_value i p (decls_of o) x) (role_there p l) ∙ first_known P typed i p p.role x v e);

@@ -4,7 +4,7 @@ use Rattle.std.specs.Prelude.{◌&&◌, not, if◌then◌else◌, nat_le, Ok}
 use Rattle.brisk_values.specs.declared.value.Value.{Value}
 use Rattle.brisk_values.specs.Functions.{changed}
 use Rattle.brisk_values.specs.Names.{Name, same_name, single}
-use Rattle.brisk_values.proofs.Changes.{both_true, exact_name, name_laws, apart_symm, changed_again, changed-same, changed_cases}
+use Rattle.brisk_values.proofs.Changes.{both_true, exact_name, name_laws, apart_symm, changed_again, changed-same, changed_cases, both_hold}
 use Rattle.brisk_syntax.specs.declared.tree.Who.{Who}
 use Rattle.brisk_syntax.specs.declared.tree.Who.TheVariants as who
 use Rattle.brisk_syntax.specs.Classes.{every, is_local, all_local, is_named, talks_to}
@@ -26,14 +26,14 @@ use Rattle.brisk_sound.proofs.Applied.{at_code}
 use Rattle.brisk_rules.proofs.Fulfilled.{same_ok, when_ok}
 use Rattle.brisk_sound.proofs.Lookups.{numbers_with}
 use Rattle.brisk_rules.proofs.Threads.{names, modes, codes, names_with_code, modes_with_code, codes_with_code, moved}
-use Rattle.brisk_straight.proofs.Events.{both_are}
 use Rattle.brisk_straight.proofs.States.{other_after}
 use Rattle.brisk_stars.specs.Serving.{messages, tells, hears}
 use Rattle.brisk_stars.specs.Threads.{at_in, served_by, served_at, IsStarThreads, BasicRulesKeepServing}
 use Rattle.brisk_stars.specs.Words.{words, is_other, runs_as_centre}
 use Rattle.brisk_stars.proofs.Keeping.{messages_then, every_then}
-use Rattle.brisk_stars.proofs.Running.{local_then, local_then_runs, is_false}
+use Rattle.brisk_stars.proofs.Running.{local_then, local_then_runs}
 use Rattle.brisk_stars.proofs.Threaded.{centre_alone, centre_fills, centre_takes, member_alone, member_fills, member_takes}
+use Rattle.std.proofs.lemmas.Bool.{not-true}
 
 exact_key : (k l : Key) → same_key k l ≡ true → k ≡ l
 exact_key k l h =
@@ -131,16 +131,16 @@ mutual
   pub unbegun_one : (s : Statement) → is_local s ≡ true → is_unbegun s ≡ true
   unbegun_one (Assign x e) l = refl
   unbegun_one (If e a) l = unbegun_all a l
-  unbegun_one (IfElse e a b) l = let k = both_true (all_local a) (all_local b) l in both_are (all_unbegun a) (all_unbegun b) (unbegun_all a k.0) (unbegun_all b k.1)
+  unbegun_one (IfElse e a b) l = let k = both_true (all_local a) (all_local b) l in both_hold (all_unbegun a) (all_unbegun b) (unbegun_all a k.0) (unbegun_all b k.1)
   unbegun_one s l = cc
 
   unbegun_all : (a : Code) → all_local a ≡ true → all_unbegun a ≡ true
   unbegun_all done l = refl
-  unbegun_all (s ⨾ a) l = let k = both_true (is_local s) (all_local a) l in both_are (is_unbegun s) (all_unbegun a) (unbegun_one s k.0) (unbegun_all a k.1)
+  unbegun_all (s ⨾ a) l = let k = both_true (is_local s) (all_local a) l in both_hold (is_unbegun s) (all_unbegun a) (unbegun_one s k.0) (unbegun_all a k.1)
 
 pub unbegun_then : (a rest : Code) → all_local a ≡ true → all_unbegun rest ≡ true → all_unbegun (a then rest) ≡ true
 unbegun_then done rest l h = h
-unbegun_then (s ⨾ a) rest l h = let k = both_true (is_local s) (all_local a) l in both_are (is_unbegun s) (all_unbegun (a then rest)) (unbegun_one s k.0) (unbegun_then a rest k.1 h)
+unbegun_then (s ⨾ a) rest l h = let k = both_true (is_local s) (all_local a) l in both_hold (is_unbegun s) (all_unbegun (a then rest)) (unbegun_one s k.0) (unbegun_then a rest k.1 h)
 
 module _ (sizes : Name → ℕ) (M : Name) (S : Symbolic) (st : IsStarThreads sizes M S) where
   abbrev Keeps : Symbolic → Type 0
@@ -272,7 +272,7 @@ module _ (sizes : Name → ℕ) (M : Name) (S : Symbolic) (st : IsStarThreads si
   -- the partner of the centre is a member, and that of a member is the centre
   centre_partner : (u : Name) (w : Who) → is_other M w ≡ true → stands_for S u w ≡ true → (partner w ≡ single u) × (same_name M u ≡ false)
   centre_partner u (who.Name n) o h = cc
-  centre_partner u (who.At s) o h = let is = focuses_it S u s h in (ap single (sym is), ap (same_name M) is ∙ is_false (same_name M s) o)
+  centre_partner u (who.At s) o h = let is = focuses_it S u s h in (ap single (sym is), ap (same_name M) is ∙ not-true (same_name M s) o)
   centre_partner u (who.Pid p) o h = absurd (no_process S u p h)
 
   member_partner : (u : Name) (w : Who) → is_named M w ≡ true → stands_for S u w ≡ true → u ≡ M
@@ -368,7 +368,7 @@ module _ (sizes : Name → ℕ) (M : Name) (S : Symbolic) (st : IsStarThreads si
       ] refl
 
 same_key_refl : (k : Key) → same_key k k ≡ true
-same_key_refl k = both_are (same_name k.from k.from && same_name k.to k.to) (same_name k.channel k.channel) (both_are (same_name k.from k.from) (same_name k.to k.to) (name_laws.refl k.from) (name_laws.refl k.to)) (name_laws.refl k.channel)
+same_key_refl k = both_hold (same_name k.from k.from && same_name k.to k.to) (same_name k.channel k.channel) (both_hold (same_name k.from k.from) (same_name k.to k.to) (name_laws.refl k.from) (name_laws.refl k.to)) (name_laws.refl k.channel)
 
 module _ (sizes : Name → ℕ) (M : Name) (S : Symbolic) (st : IsStarThreads sizes M S) where
   -- a number that is put where none waits is the one that waits

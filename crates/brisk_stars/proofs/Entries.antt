@@ -24,7 +24,7 @@ use Rattle.brisk_stars.specs.Searching.{IsAlone}
 use Rattle.brisk_stars.specs.Threads.{IsStarThreads, at_in}
 use Rattle.brisk_stars.specs.Tops.{LoopsAreEntered}
 use Rattle.brisk_stars.specs.Words.{runs_as_centre, serves}
-use Rattle.brisk_stars.proofs.Running.{is_false}
+use Rattle.std.proofs.lemmas.Bool.{not-true}
 
 goes_on : {A B E : Type 0} (o : Result A E) (a : A) (go : A → Result B E) (b : B) → o ≡ Ok a → go a ≡ Ok b → and_then o go ≡ Ok b
 goes_on o a go b e h = ap (λ z. and_then z go) e ∙ h
@@ -40,7 +40,7 @@ module _ (sizes : Name → ℕ) (M : Name) (S : Symbolic) (drops : List Fact) (r
   set_each : (v s : Name) (b : Code) → serves sizes M v s b ≡ true → modes S.threads s ≡ Some Each
   set_each v s b h =
       let k = both_true (not (same_name M s)) (nat_lt 0 (sizes s) && every (talks_to (is_named v)) b) h in
-      let other = is_false (same_name M s) k.0 in
+      let other = not-true (same_name M s) k.0 in
       let some = (both_true (nat_lt 0 (sizes s)) (every (talks_to (is_named v)) b) k.1).0 in
       let t = st.there s some in
       t.1 ∙ ap Some (by other t.0 t.1)

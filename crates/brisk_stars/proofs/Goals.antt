@@ -17,6 +17,7 @@ use Rattle.brisk_search.specs.Drives.{must_end, or_others, premise_of}
 use Rattle.brisk_straight.proofs.Local.{pending_itself}
 use Rattle.brisk_stars.specs.Threads.{at_in}
 use Rattle.brisk_stars.proofs.Outside.{Still, blank, blanked, mail_outside}
+use Rattle.std.proofs.lemmas.Bool.{not-true}
 
 -- threads that are the same but for two are restored but for these
 module _ (M s : Name) (looks : Name → Bool) (not_these : (u : Name) → looks u ≡ true → (same_name M u || same_name s u) ≡ false) where
@@ -56,15 +57,11 @@ module _ (M s : Name) (r : Entered) (rest : Code) (owned : r.owners ≡ record {
       let is : (not (same_name s u) && not (same_name u M || false)) ≡ true = sym (λ i. looks_at (looks i) u && not (list_any (λ (o : Owner). same_name u o.name) (owned i))) ∙ h in
       let k = both_true (not (same_name s u)) (not (same_name u M || false)) is in
       let other = is_off (same_name u M) k.1 in
-      (λ i. (name_laws.symm M u ∙ other) i || is_off' (same_name s u) k.0 i)
+      (λ i. (name_laws.symm M u ∙ other) i || not-true (same_name s u) k.0 i)
     where
       is_off : (b : Bool) → not (b || false) ≡ true → b ≡ false
       is_off true e = cc
       is_off false e = refl
-
-      is_off' : (b : Bool) → not b ≡ true → b ≡ false
-      is_off' true e = cc
-      is_off' false e = refl
 
   owners_done : first_fault (map (unfinished E) r.owners) ≡ None
   owners_done =

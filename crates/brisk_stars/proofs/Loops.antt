@@ -1,11 +1,11 @@
 -- Branches, and the entry and the close of a loop of the centre, keep to what serving comes.
 use Rattle.std.proofs.Common.{◌≡◌, ◌≢◌, ℕ, zero, suc, ◌≤◌, true, false, List, [], ◌∷◌, ◌++◌, map, Option, Some, None, refl, sym, ap, ◌∙◌, arith, nat_eq}
 use Rattle.std.specs.Prelude.{◌&&◌, not, if◌then◌else◌, Ok, nat_lt, option_map, ◌-◌}
-use Rattle.std.proofs.lemmas.Bool.{ltb-true}
+use Rattle.std.proofs.lemmas.Bool.{ltb-true, not-true}
 use Rattle.brisk_values.specs.declared.value.Pid.{Pid}
 use Rattle.brisk_values.specs.Functions.{changed}
 use Rattle.brisk_values.specs.Names.{Name, same_name, single}
-use Rattle.brisk_values.proofs.Changes.{both_true, exact_name, name_laws, apart_symm, changed-same}
+use Rattle.brisk_values.proofs.Changes.{both_true, exact_name, name_laws, apart_symm, changed-same, both_hold}
 use Rattle.brisk_syntax.specs.Classes.{every, is_local, all_local, is_named, talks_to}
 use Rattle.brisk_syntax.specs.Syntax.{Statement, Assign, Send, Recv, RecvAny, If, IfElse, For, Repeat, Code, done, ◌⨾◌, ◌then◌}
 use Rattle.brisk_syntax.specs.Typing.{are_distinct}
@@ -28,15 +28,15 @@ use Rattle.std.proofs.lemmas.List.{append-nil}
 use Rattle.std.proofs.lemmas.Option.{same_Some}
 use Rattle.brisk_sound.proofs.Closing.{closed, finished, first_none}
 use Rattle.brisk_rules.proofs.Threads.{names, modes, codes, names_with_code, modes_with_code, codes_with_code, names_with_mode, codes_with_mode, modes_with_mode, thread_after}
-use Rattle.brisk_straight.proofs.Events.{both_are}
 use Rattle.brisk_stars.specs.Serving.{Served, Word, hears, followed, settled, messages, serve}
 use Rattle.brisk_stars.specs.Threads.{at_in, members_by, served_by, served_at, IsStarThreads, IsCentresLoop, LocalStepsKeepServing, ForsAreEntered, GathersAreEntered, PremisesSayATurn, ClosesKeepServing}
 use Rattle.brisk_stars.specs.Words.{in_turns, is_focus, is_other, runs_as_centre, serves, words, words_to}
 use Rattle.brisk_stars.proofs.Basics.{to_code, unbegun_one}
 use Rattle.brisk_stars.proofs.Keeping.{messages_then}
-use Rattle.brisk_stars.proofs.Running.{local_then, local_mapped, named_with, body_says, body_runs, serves_parts, is_false}
+use Rattle.brisk_stars.proofs.Running.{local_then, local_mapped, named_with, body_says, body_runs, serves_parts}
 use Rattle.brisk_stars.proofs.Serving.{served_alike, serving_appends, settled_once}
 use Rattle.brisk_stars.proofs.Threaded.{members_same}
+use Rattle.brisk_syntax.proofs.Codes.{then-done}
 
 -- what is behind local code is code of the same kind
 pub runs_behind : (sizes : Name → ℕ) (M : Name) (a rest : Code) → all_local a ≡ true → runs_as_centre sizes M (a then rest) ≡ true → runs_as_centre sizes M rest ≡ true
@@ -176,14 +176,10 @@ unfocused_ok (Some One) more a e = e
 unfocused_ok (Some At) more a e = cc
 unfocused_ok (Some Each) more a e = e
 
-then_done : (c : Code) → c then done ≡ c
-then_done done = refl
-then_done (s ⨾ c) = ap (λ k. s ⨾ k) (then_done c)
-
 -- the body of a loop has no loop that has begun
 pub body_unbegun : (v : Name) (x : Who) (b : Code) → every (talks_to (is_named v)) b ≡ true → all_unbegun (code_with v x b) ≡ true
 body_unbegun v x done h = refl
-body_unbegun v x (s ⨾ b) h = let k = both_true (talks_to (is_named v) s) (every (talks_to (is_named v)) b) h in both_are (is_unbegun (statement_map (who_with v x) s)) (all_unbegun (code_with v x b)) (one s k.0) (body_unbegun v x b k.1)
+body_unbegun v x (s ⨾ b) h = let k = both_true (talks_to (is_named v) s) (every (talks_to (is_named v)) b) h in both_hold (is_unbegun (statement_map (who_with v x) s)) (all_unbegun (code_with v x b)) (one s k.0) (body_unbegun v x b k.1)
   where
     one : (s : Statement) → talks_to (is_named v) s ≡ true → is_unbegun (statement_map (who_with v x) s) ≡ true
     one (Send c es u) t = refl
@@ -196,7 +192,7 @@ body_unbegun v x (s ⨾ b) h = let k = both_true (talks_to (is_named v) s) (ever
 -- at the member in focus a body talks to it
 pub body_focused : (v s : Name) (b : Code) → every (talks_to (is_named v)) b ≡ true → every (talks_to (is_focus s)) (code_with v (who.At s) b) ≡ true
 body_focused v s done h = refl
-body_focused v s (x ⨾ b) h = let k = both_true (talks_to (is_named v) x) (every (talks_to (is_named v)) b) h in both_are (talks_to (is_focus s) (statement_map (who_with v (who.At s)) x)) (every (talks_to (is_focus s)) (code_with v (who.At s) b)) (one x k.0) (body_focused v s b k.1)
+body_focused v s (x ⨾ b) h = let k = both_true (talks_to (is_named v) x) (every (talks_to (is_named v)) b) h in both_hold (talks_to (is_focus s) (statement_map (who_with v (who.At s)) x)) (every (talks_to (is_focus s)) (code_with v (who.At s) b)) (one x k.0) (body_focused v s b k.1)
   where
     one : (x : Statement) → talks_to (is_named v) x ≡ true → talks_to (is_focus s) (statement_map (who_with v (who.At s)) x) ≡ true
     one (Send c es u) t = ap (is_focus s) (named_with v (who.At s) u t) ∙ name_laws.refl s
@@ -212,7 +208,7 @@ module _ (sizes : Name → ℕ) (M v s : Name) (b : Code) (few : sizes s ≤ 1) 
   parts = serves_parts sizes M v s b h
 
   apart : same_name M s ≡ false
-  apart = is_false (same_name M s) parts.0
+  apart = not-true (same_name M s) parts.0
 
   some : nat_lt 0 (sizes s) ≡ true
   some = let k = both_true (not (same_name M s)) (nat_lt 0 (sizes s) && every (talks_to (is_named v)) b) h in (both_true (nat_lt 0 (sizes s)) (every (talks_to (is_named v)) b) k.1).0
@@ -224,10 +220,10 @@ module _ (sizes : Name → ℕ) (M v s : Name) (b : Code) (few : sizes s ≤ 1) 
   focused = code_with v (who.At s) b
 
   pub focused_says : words sizes focused ≡ words_to (single s) (messages b)
-  focused_says = ap (words sizes) (sym (then_done focused)) ∙ body_says sizes v (who.At s) b done parts.1 ∙ append-nil (words_to (single s) (messages b))
+  focused_says = ap (words sizes) (sym (then-done focused)) ∙ body_says sizes v (who.At s) b done parts.1 ∙ append-nil (words_to (single s) (messages b))
 
   pub focused_runs : runs_as_centre sizes M focused ≡ true
-  focused_runs = ap (runs_as_centre sizes M) (sym (then_done focused)) ∙ body_runs sizes M v (who.At s) b done parts.0 parts.1 refl
+  focused_runs = ap (runs_as_centre sizes M) (sym (then-done focused)) ∙ body_runs sizes M v (who.At s) b done parts.0 parts.1 refl
 
   -- the words of the one turn of a loop over the set
   turn_says : (first : Pid → List Word) (rest : List Word) → in_turns s (sizes s - 0) 0 first ++ rest ≡ first (single s) ++ rest
@@ -322,9 +318,9 @@ gather_parts sizes M S r drops st e =
         members = some sizes M a.binder s a.body (st.size s) serving;
         says = ap (words sizes) code ∙ turn_says sizes M a.binder s a.body (st.size s) serving (λ w. hears w a.channel ∷ words_to w (messages a.body)) (words sizes a.rest)
             ∙ ap (λ ws. hears (single s) a.channel ∷ (ws ++ words sizes a.rest)) (sym (focused_says sizes M a.binder s a.body (st.size s) serving));
-        runs = both_are (is_other M (who.At s)) (runs_as_centre sizes M (code_with a.binder (who.At s) a.body)) (ap not (apart sizes M a.binder s a.body (st.size s) serving)) (focused_runs sizes M a.binder s a.body (st.size s) serving);
+        runs = both_hold (is_other M (who.At s)) (runs_as_centre sizes M (code_with a.binder (who.At s) a.body)) (ap not (apart sizes M a.binder s a.body (st.size s) serving)) (focused_runs sizes M a.binder s a.body (st.size s) serving);
         fresh = body_unbegun a.binder (who.At s) a.body (serves_parts sizes M a.binder s a.body serving).1;
-        talks = both_are (same_name s s) (every (talks_to (is_focus s)) (code_with a.binder (who.At s) a.body)) (name_laws.refl s) (body_focused a.binder s a.body (serves_parts sizes M a.binder s a.body serving).1);
+        talks = both_hold (same_name s s) (every (talks_to (is_focus s)) (code_with a.binder (who.At s) a.body)) (name_laws.refl s) (body_focused a.binder s a.body (serves_parts sizes M a.binder s a.body serving).1);
         runs_on = runs.1;
         fresh_on = fresh.1;
       };

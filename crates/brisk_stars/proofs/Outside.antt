@@ -20,6 +20,7 @@ use Rattle.brisk_sound.proofs.Applied.{at_code}
 use Rattle.brisk_rules.proofs.Fulfilled.{same_ok, when_ok}
 use Rattle.brisk_sound.proofs.Events.{exact_key}
 use Rattle.brisk_sound.proofs.Lookups.{exact_key_cmp}
+use Rattle.std.proofs.Math.Bool.{or-true}
 
 -- numbers under a key that isn't looked at
 not_looked : (test : Key → Bool) (k : Key) (p : Pending) → test k ≡ false → filter (λ (e : Key × List ℕ). test e.0) (filter (λ (e : Key × List ℕ). not (same_key k e.0)) p) ≡ filter (λ (e : Key × List ℕ). test e.0) p
@@ -73,11 +74,7 @@ module _ (M s : Name) where
 
   one_of : (t n : Name) → OneOf t → same_name t n ≡ true → (same_name M n || same_name s n) ≡ true
   one_of t n (inl is) e = ap (λ b. b || same_name s n) (ap (λ z. same_name z n) is ∙ e)
-  one_of t n (inr is) e = ap (λ b. same_name M n || b) (ap (λ z. same_name z n) is ∙ e) ∙ or_true (same_name M n)
-    where
-      or_true : (b : Bool) → (b || true) ≡ true
-      or_true true = refl
-      or_true false = refl
+  one_of t n (inr is) e = ap (λ b. same_name M n || b) (ap (λ z. same_name z n) is ∙ e) ∙ or-true (same_name M n)
 
   pub blanked_with : (t : Name) (k : Code) (ts : List Thread) → OneOf t → blanked (with_code t k ts) ≡ blanked ts
   blanked_with t k [] is = refl
@@ -92,11 +89,7 @@ module _ (M s : Name) where
   key_between t u c e = ap (λ b. not (b || same_name s u)) e
 
   key_back : (t u c : Name) → same_name s u ≡ true → looks_at_key (Outside s) (key t u c) ≡ false
-  key_back t u c e = ap (λ b. not (same_name s t || b)) e ∙ ap not (or_true (same_name s t))
-    where
-      or_true : (b : Bool) → (b || true) ≡ true
-      or_true true = refl
-      or_true false = refl
+  key_back t u c e = ap (λ b. not (same_name s t || b)) e ∙ ap not (or-true (same_name s t))
 
   module _ (S : Symbolic) (two : (t : Name) (c : Code) → code_at S t ≡ Some c → OneOf t) (keyed : (t u c : Name) (code : Code) → code_at S t ≡ Some code →
       ((p : List Expression × Code) × (sends S u c code ≡ Some p)) ⊎ ((p : List Name × Code) × (receives S u c code ≡ Some p)) → (same_name s t || same_name s u) ≡ true) where

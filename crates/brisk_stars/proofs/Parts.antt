@@ -10,6 +10,7 @@ use Rattle.brisk_search.specs.Passes.{first_pass}
 use Rattle.brisk_search.specs.Searched.{answer, passes, searched}
 use Rattle.brisk_stars.specs.Sources.{IsCentre}
 use Rattle.brisk_stars.specs.Stars.{FromItsParts, IsRefused, IsSequenced, PassEnds, reached, unserved, left_over}
+use Rattle.std.proofs.Math.Bool.{or-true}
 
 -- a star has a centre
 pub a_centre : (P : Program) → is_star P ≡ true → (r : RoleText) × IsCentre P r
@@ -26,12 +27,8 @@ from_its_parts passes_end deadlocks overtakes P budget source = by (passes_end P
     c : (r : RoleText) × IsCentre P r
     c = a_centre P source.star
 
-    true_last : (b : Bool) → (b || true) ≡ true
-    true_last true = refl
-    true_last false = refl
-
     one_pass : searched P budget ≡ answer P (first_pass P None)
-    one_pass = ap (λ b. answer P (passes b P budget)) (ap (λ b. is_straight P || b) source.star ∙ true_last (is_straight P))
+    one_pass = ap (λ b. answer P (passes b P budget)) (ap (λ b. is_straight P || b) source.star ∙ or-true (is_straight P))
 
     by : PassEnds P c.0 → IsSequenced P budget ⊎ IsRefused P budget
     by (reached w is) = inl (w.steps, sequential P w.items, one_pass ∙ ap (answer P) is)

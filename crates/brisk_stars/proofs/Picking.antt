@@ -2,10 +2,10 @@
 use Rattle.std.proofs.Common.{◌≡◌, ◌⊎◌, inl, inr, ℕ, suc, ◌+◌, ◌<◌, ◌≤◌, Bool, true, false, List, [], ◌∷◌, ◌++◌, map, length, Some, None, refl, sym, ap, ◌∙◌, subst, arith}
 use Rattle.std.specs.Prelude.{◌&&◌, ◌||◌, not, if◌then◌else◌, Ok, nat_lt}
 use Rattle.std.specs.List.{list_any}
-use Rattle.std.proofs.lemmas.Bool.{ltb-true}
+use Rattle.std.proofs.lemmas.Bool.{ltb-true, not-true}
 use Rattle.std.proofs.lemmas.Option.{same_Some}
 use Rattle.brisk_values.specs.Names.{Name, same_name, single, member}
-use Rattle.brisk_values.proofs.Changes.{both_true, name_laws, changed-same}
+use Rattle.brisk_values.proofs.Changes.{both_true, name_laws, changed-same, both_hold}
 use Rattle.brisk_syntax.specs.declared.program.Program.{Program}
 use Rattle.brisk_syntax.specs.declared.tree.Who.TheVariants as who
 use Rattle.brisk_syntax.specs.Classes.{every, is_named, talks_to}
@@ -33,7 +33,6 @@ use Rattle.brisk_search.specs.Drives.{Reached, Stuck, Way, premise_of}
 use Rattle.brisk_search.specs.Passes.{driver, enough}
 use Rattle.brisk_answered.proofs.Sides.{own_sides}
 use Rattle.brisk_answered.proofs.Fuel.{enough_is}
-use Rattle.brisk_straight.proofs.Events.{both_are}
 use Rattle.brisk_stars.specs.Picks.{PicksNeverClose, sends_on, to_hear}
 use Rattle.brisk_stars.specs.Runs.{nobody}
 use Rattle.brisk_stars.specs.Searching.{IsAlone, IsRoomy}
@@ -44,7 +43,7 @@ use Rattle.brisk_stars.proofs.Hearing.{hearing_takes, settling}
 use Rattle.brisk_stars.proofs.Loops.{all_codes, body_focused, body_unbegun, focused_runs, focused_says, unfocused_ok}
 use Rattle.brisk_stars.proofs.Outside.{Still, blanked}
 use Rattle.brisk_stars.proofs.Premises.{premise_starts, rounds_end}
-use Rattle.brisk_stars.proofs.Running.{is_false, serves_parts}
+use Rattle.brisk_stars.proofs.Running.{serves_parts}
 
 any_is : (c : Code) (a : AnyReceive) → any_of c ≡ Some a → c ≡ any_code a
 any_is (RecvAny c xs v s b ⨾ rest) a e = ap any_code (same_Some _ a e)
@@ -68,7 +67,7 @@ pick_parts P sizes M S r drops st e =
     let parts = both_true (serves sizes M a.binder s a.body) (nat_lt (turn_before a.rest) (sizes s)) runs.0 in
     let first : turn_before a.rest ≡ 0 = (let l = ltb-true (turn_before a.rest) (sizes s) parts.1 in let f = st.size s in omega (arith, l, f)) in
     let k = both_true (not (same_name M s)) (nat_lt 0 (sizes s) && every (talks_to (is_named a.binder)) a.body) parts.0 in
-    let apart = is_false (same_name M s) k.0 in
+    let apart = not-true (same_name M s) k.0 in
     let fresh = both_true (all_unbegun a.body) (all_unbegun a.rest) (ap all_unbegun (sym code) ∙ st.unbegun) in
     record {
       any = a;
@@ -85,9 +84,9 @@ pick_parts P sizes M S r drops st e =
         members = (both_true (nat_lt 0 (sizes s)) (every (talks_to (is_named a.binder)) a.body) k.1).0;
         says = ap (words sizes) code ∙ ap (λ n. hears (member s n) a.channel ∷ (words_to (member s n) (messages a.body) ++ words sizes a.rest)) first
             ∙ ap (λ ws. hears (single s) a.channel ∷ (ws ++ words sizes a.rest)) (sym (focused_says sizes M a.binder s a.body (st.size s) parts.0));
-        runs = both_are (is_other M (who.At s)) (runs_as_centre sizes M (code_with a.binder (who.At s) a.body)) (ap not apart) (focused_runs sizes M a.binder s a.body (st.size s) parts.0);
+        runs = both_hold (is_other M (who.At s)) (runs_as_centre sizes M (code_with a.binder (who.At s) a.body)) (ap not apart) (focused_runs sizes M a.binder s a.body (st.size s) parts.0);
         fresh = body_unbegun a.binder (who.At s) a.body (serves_parts sizes M a.binder s a.body parts.0).1;
-        talks = both_are (same_name s s) (every (talks_to (is_focus s)) (code_with a.binder (who.At s) a.body)) (name_laws.refl s) (body_focused a.binder s a.body (serves_parts sizes M a.binder s a.body parts.0).1);
+        talks = both_hold (same_name s s) (every (talks_to (is_focus s)) (code_with a.binder (who.At s) a.body)) (name_laws.refl s) (body_focused a.binder s a.body (serves_parts sizes M a.binder s a.body parts.0).1);
         runs_on = runs.1;
         fresh_on = fresh.1;
       };

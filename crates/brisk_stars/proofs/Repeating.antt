@@ -4,7 +4,7 @@ use Rattle.std.specs.Prelude.{◌&&◌, ◌||◌, not, if◌then◌else◌, is_n
 use Rattle.std.specs.List.{list_any}
 use Rattle.brisk_values.specs.Functions.{changed}
 use Rattle.brisk_values.specs.Names.{Name, same_name}
-use Rattle.brisk_values.proofs.Changes.{both_true, exact_name, name_laws, changed-same}
+use Rattle.brisk_values.proofs.Changes.{both_true, exact_name, name_laws, changed-same, both_hold}
 use Rattle.brisk_syntax.specs.declared.program.Program.{Program}
 use Rattle.brisk_syntax.specs.Syntax.{Code, RecvAny, Repeat, done, ◌⨾◌}
 use Rattle.brisk_syntax.specs.WellTyped.{all_unbegun}
@@ -33,7 +33,6 @@ use Rattle.brisk_search.specs.Passes.{after_round, driver, here, round, rounds}
 use Rattle.brisk_answered.proofs.Sides.{own_sides, advances}
 use Rattle.brisk_answered.proofs.Fuel.{enough_is}
 use Rattle.brisk_straight.proofs.Places.{stands_at}
-use Rattle.brisk_straight.proofs.Events.{both_are}
 use Rattle.brisk_straight.proofs.States.{left_in}
 use Rattle.brisk_stars.specs.Picks.{RepeatsStay}
 use Rattle.brisk_stars.specs.Searching.{IsAlone, IsRoomy}
@@ -127,7 +126,7 @@ module _ (P : Program) (strict : IsStrict P) (F : Follow) (sizes : Name → ℕ)
       let some = (both_true (nat_lt 0 (sizes s)) (every (talks_to (is_named v)) b) (both_true (not (same_name M s)) (nat_lt 0 (sizes s) && every (talks_to (is_named v)) b) serving).1).0 in
       let fresh = both_true (nat_eq 0 0 && (all_unbegun b && true)) (all_unbegun rest) (ap all_unbegun (sym at) ∙ st.unbegun) in
       let star = star_with_centre sizes M S st r.start body code mode (ap names threads ∙ names_with_code M body S.threads)
-      (both_are (serves sizes M v s b && nat_lt 0 (sizes s)) true (both_are (serves sizes M v s b) (nat_lt 0 (sizes s)) serving some) refl)
+      (both_hold (serves sizes M v s b && nat_lt 0 (sizes s)) true (both_hold (serves sizes M v s b) (nat_lt 0 (sizes s)) serving some) refl)
       (both_true (nat_eq 0 0) (all_unbegun b && true) fresh.0).1 in
       let still : IsAlone M r.start = λ u k far here. let m = moved r.start.threads u k here in alone u (codes S.threads u) far (stands_at S.threads u (ap (λ (f : Name → Option Mode). is_active (f u)) (sym mode) ∙ m.active)) in
       let there : at_in r.start M ≡ body = ap (λ (f : Name → Code). f M) code ∙ changed-same name_laws (at_in S) M body in

@@ -24,6 +24,7 @@ use Rattle.brisk_straight.proofs.Numbers.{found_uses, with_uses}
 use Rattle.brisk_straight.proofs.States.{left_in, left_with, thread_at, other_after}
 use Rattle.brisk_stars.proofs.Basics.{at_send, at_receive}
 use Rattle.brisk_syntax.specs.Typing.{are_distinct}
+use Rattle.std.proofs.lemmas.Bool.{or_right}
 
 module _ (depth most : ℕ) where
   -- few boxes are in use, and few statements left, and no code nests deep; the threads have different names
@@ -76,10 +77,6 @@ module _ (depth most : ℕ) where
             ∙ changed_cases same_name (codes S.threads) t k u (λ z. every (talks_to test) z ≡ true)
             (λ same. behind test (ap (every (talks_to test)) (sym moves.stands ∙ ap (codes S.threads) (exact_name t u same)) ∙ h)) (λ other. h);
       }
-    where
-      or_right : (a b : Bool) → b ≡ true → (a || b) ≡ true
-      or_right true b e = refl
-      or_right false b e = e
 
   pub alone_takes : (S E : Symbolic) (t : Name) (c k : Code) → HasRoom S → code_at S t ≡ Some c → code_depth k ≤ depth → statements k + 1 ≤ statements c → ((test : Who → Bool) → every (talks_to test) c ≡ true → every (talks_to test) k ≡ true) → E.threads ≡ with_code t k S.threads → E.pending ≡ S.pending → Takes S E
   alone_takes S E t c k s here deep less behind threads pending = one_takes S E t c k 0 s here deep less behind threads (λ m u. inr (ap (λ p. is_in_use p m) (sym pending) ∙ u))
@@ -132,10 +129,6 @@ module _ (depth most : ℕ) where
                   ]))
             ] refl
       ] refl
-    where
-      or_right : (a b : Bool) → b ≡ true → (a || b) ≡ true
-      or_right true b e = refl
-      or_right false b e = e
 
   pub pass_takes : (S : Symbolic) (t u C : Name) (c d : Code) (r : Applied) → HasRoom S → code_at S t ≡ Some c → code_at S u ≡ Some d →
       pass S t u (sends S u C c) (receives S t C d) (numbers_at S.pending (key t u C)) ≡ Ok r → Takes S r.next

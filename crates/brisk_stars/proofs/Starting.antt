@@ -6,7 +6,7 @@ use Rattle.std.proofs.lemmas.Bool.{lt-ltb, le-ltb, eqb-false}
 use Rattle.std.proofs.lemmas.Option.{same_Some}
 use Rattle.brisk_values.specs.declared.value.Pid.{Pid}
 use Rattle.brisk_values.specs.Names.{Name, same_name, same_process, single}
-use Rattle.brisk_values.proofs.Changes.{both_true, exact_name, name_laws}
+use Rattle.brisk_values.proofs.Changes.{both_true, exact_name, name_laws, both_hold}
 use Rattle.brisk_syntax.specs.declared.program.Program.{Program}
 use Rattle.brisk_syntax.specs.Classes.{every, fits_star, has_no_loose, in_centre, is_named, is_star_round, all_local, talks_to}
 use Rattle.brisk_syntax.specs.Declarations.{code_in, role_named}
@@ -18,7 +18,6 @@ use Rattle.brisk_syntax.specs.WellTyped.{IsCodeWellTyped, IsRoleWellTyped, is_ot
 use Rattle.brisk_async.specs.PlainRuns.{plain_instance}
 use Rattle.brisk_sound.proofs.Starts.{all_named}
 use Rattle.brisk_straight.proofs.Ends.{none_loose}
-use Rattle.brisk_straight.proofs.Events.{both_are}
 use Rattle.brisk_straight.proofs.Totals.{roles_found}
 use Rattle.brisk_stars.specs.Runs.{IsStarState}
 use Rattle.brisk_stars.specs.Sources.{IsCentre, IsStarSource, StarsStart, plain_start}
@@ -109,20 +108,20 @@ module _ (P : Program) (r : RoleText) (k : ℕ) (some : 0 < k) (source : IsStarS
   loop_serves : (v s : Name) (b : Code) → every (talks_to (is_named v)) b ≡ true → is_other_set P r s ≡ true → serves sizes M v s b ≡ true
   loop_serves v s b h t =
       let z = both_true (is_set P.roles s) (not (same_name s r.name)) t in
-      both_are (not (same_name M s)) (nat_lt 0 (sizes s) && every (talks_to (is_named v)) b) (ap not (name_laws.symm M s) ∙ z.1) (both_are (nat_lt 0 (sizes s)) (every (talks_to (is_named v)) b) (set_some s z.0) h)
+      both_hold (not (same_name M s)) (nat_lt 0 (sizes s) && every (talks_to (is_named v)) b) (ap not (name_laws.symm M s) ∙ z.1) (both_hold (nat_lt 0 (sizes s)) (every (talks_to (is_named v)) b) (set_some s z.0) h)
 
   runs : (c : Code) → every in_centre c ≡ true → IsCodeWellTyped P r [] c → runs_as_centre sizes M c ≡ true
   runs done h t = refl
   runs (Assign x e ⨾ c) h t = runs c h t.1
-  runs (If e a ⨾ c) h t = let z = both_true (all_local a) (every in_centre c) h in both_are (all_local a) (runs_as_centre sizes M c) z.0 (runs c z.1 t.1)
-  runs (IfElse e a b ⨾ c) h t = let z = both_true (all_local a && all_local b) (every in_centre c) h in both_are (all_local a && all_local b) (runs_as_centre sizes M c) z.0 (runs c z.1 t.1)
+  runs (If e a ⨾ c) h t = let z = both_true (all_local a) (every in_centre c) h in both_hold (all_local a) (runs_as_centre sizes M c) z.0 (runs c z.1 t.1)
+  runs (IfElse e a b ⨾ c) h t = let z = both_true (all_local a && all_local b) (every in_centre c) h in both_hold (all_local a && all_local b) (runs_as_centre sizes M c) z.0 (runs c z.1 t.1)
   runs (For v s n b ⨾ c) h t =
       let z = both_true (every (talks_to (is_named v)) b) (every in_centre c) h in
-      both_are (serves sizes M v s b) (runs_as_centre sizes M c) (loop_serves v s b z.0 t.0.0) (runs c z.1 t.1)
+      both_hold (serves sizes M v s b) (runs_as_centre sizes M c) (loop_serves v s b z.0 t.0.0) (runs c z.1 t.1)
   runs (Repeat s n (RecvAny d xs v u b ⨾ done) ⨾ c) h t =
       let z = both_true (same_name s u && every (talks_to (is_named v)) b) (every in_centre c) h in
       let y = both_true (same_name s u) (every (talks_to (is_named v)) b) z.0 in
-      both_are (same_name s u && serves sizes M v s b) (runs_as_centre sizes M c) (both_are (same_name s u) (serves sizes M v s b) y.0 (loop_serves v s b y.1 t.0.0)) (runs c z.1 t.1)
+      both_hold (same_name s u && serves sizes M v s b) (runs_as_centre sizes M c) (both_hold (same_name s u) (serves sizes M v s b) y.0 (loop_serves v s b y.1 t.0.0)) (runs c z.1 t.1)
   runs (s ⨾ c) h t = cc
 
   -- a process of the centre's name but its own has no code

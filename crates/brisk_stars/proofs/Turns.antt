@@ -5,7 +5,7 @@ use Rattle.std.specs.List.{AllByRecursion}
 use Rattle.std.proofs.lemmas.Bool.{le-leb}
 use Rattle.brisk_values.specs.declared.value.Value.{Value}
 use Rattle.brisk_values.specs.Names.{Name, same_name}
-use Rattle.brisk_values.proofs.Changes.{both_true, exact_name, name_laws}
+use Rattle.brisk_values.proofs.Changes.{both_true, exact_name, name_laws, both_hold}
 use Rattle.brisk_syntax.specs.declared.program.Program.{Program}
 use Rattle.brisk_syntax.specs.declared.tree.Who.{Who}
 use Rattle.brisk_syntax.specs.declared.tree.Who.TheVariants as who
@@ -42,7 +42,7 @@ use Rattle.brisk_search.specs.Drives.{side_of}
 use Rattle.brisk_search.specs.Advance.{Around, applied, basically, filled, acts, acts_for, actor, advance, waits_for, unless_taken}
 use Rattle.brisk_search.specs.Passes.{driver}
 use Rattle.brisk_rules.proofs.Readings.{is_active as reads_active}
-use Rattle.brisk_straight.proofs.Events.{both_are, statements_then}
+use Rattle.brisk_straight.proofs.Events.{statements_then}
 use Rattle.brisk_straight.proofs.Places.{stands_at}
 use Rattle.brisk_straight.proofs.States.{left_in, depth_then}
 use Rattle.brisk_answered.proofs.Free.{some_free}
@@ -56,6 +56,7 @@ use Rattle.brisk_stars.proofs.Loops.{runs_behind, unbegun_behind, every_behind}
 use Rattle.brisk_stars.proofs.Outside.{Still, alone_still, basic_still}
 use Rattle.brisk_stars.proofs.Room.{HasRoom, Takes, depth_there, alone_takes, basic_takes}
 use Rattle.brisk_stars.proofs.Running.{local_then, local_then_runs, local_says}
+use Rattle.std.proofs.Math.Bool.{or-true}
 
 -- who is named by a partner's thread stands for it
 focus_stands : (S : Symbolic) (s : Name) → modes S.threads s ≡ Some At → stands_for S s (who.At s) ≡ true
@@ -86,8 +87,8 @@ fill_applies S t C n es w rest number partner here low high unused =
     } in (
       r,
       ap (λ o. at_thread o (λ code. fill S t n C number (sends S n C code))) here
-          ∙ ap (λ b. fill S t n C number (if b then Some (es, rest) else None)) (both_are (same_name C C) (stands_for S n w) (name_laws.refl C) partner)
-          ∙ ap (λ b. when b BoxInUse (Ok r)) (both_are (nat_le 1 number && nat_le number 1000000) (not (is_in_use S.pending number)) (both_are (nat_le 1 number) (nat_le number 1000000) (le-leb 1 number low) (le-leb number 1000000 high)) (ap not unused)),
+          ∙ ap (λ b. fill S t n C number (if b then Some (es, rest) else None)) (both_hold (same_name C C) (stands_for S n w) (name_laws.refl C) partner)
+          ∙ ap (λ b. when b BoxInUse (Ok r)) (both_hold (nat_le 1 number && nat_le number 1000000) (not (is_in_use S.pending number)) (both_hold (nat_le 1 number) (nat_le number 1000000) (le-leb 1 number low) (le-leb number 1000000 high)) (ap not unused)),
     )
 
 -- a receive takes what pends, or nothing pends
@@ -95,7 +96,7 @@ pub take_applies : (S : Symbolic) (t C n : Name) (xs : List Name) (w : Who) (res
     apply S (rule.Take n t C) ≡ Err why → numbers_at S.pending (key n t C) ≡ []
 take_applies S t C n xs w rest why partner here fails =
     let is = ap (λ o. at_thread o (λ code. take S n t C (receives S n C code) (numbers_at S.pending (key n t C)))) here
-    ∙ ap (λ b. take S n t C (if b then Some (xs, rest) else None) (numbers_at S.pending (key n t C))) (both_are (same_name C C) (stands_for S n w) (name_laws.refl C) partner) in
+    ∙ ap (λ b. take S n t C (if b then Some (xs, rest) else None) (numbers_at S.pending (key n t C))) (both_hold (same_name C C) (stands_for S n w) (name_laws.refl C) partner) in
     elim (numbers_at S.pending (key n t C)) as (λ l. take S n t C (Some (xs, rest)) l ≡ Err why → l ≡ []) [
       | [] ↦ λ g. refl
       | m ∷ ms ↦ λ g. cc
@@ -205,13 +206,9 @@ module _ (P : Program) (sizes : Name → ℕ) (M s : Name) (n depth most : ℕ) 
             ]
       ]
     where
-      or_true : (b : Bool) → (b || true) ≡ true
-      or_true true = refl
-      or_true false = refl
-
       with_focus : (w : Who) → is_focus s w ≡ true → stands_for S u w ≡ true → (same_name s t || same_name s u) ≡ true
       with_focus (who.Name m) f g = cc
-      with_focus (who.At r) f g = ap (λ b. same_name s t || b) (ap (same_name s) (focuses_it S u r g) ∙ f) ∙ or_true (same_name s t)
+      with_focus (who.At r) f g = ap (λ b. same_name s t || b) (ap (same_name s) (focuses_it S u r g) ∙ f) ∙ or-true (same_name s t)
       with_focus (who.Pid q) f g = cc
 
   -- a known choice takes a statement
@@ -263,7 +260,7 @@ module _ (P : Program) (sizes : Name → ℕ) (M s : Name) (n depth most : ℕ) 
   local_steps S t x k p l here waits =
       let d = depth_there depth most S t (x ⨾ k) p.room here in
       let y = local_turn around (suc n) refl below S t x done k p.room.apart l refl (omega (arith, d, deep)) here in
-      let one : all_local (x ⨾ done) ≡ true = both_are (is_local x) true l refl in
+      let one : all_local (x ⨾ done) ≡ true = both_hold (is_local x) true l refl in
       let keeps = to_code sizes M S p.star y.next t (x ⨾ k) (y.after then k) here y.moves.threads y.moves.pending (local_then sizes y.after k y.local ∙ sym (local_says sizes x k l)) (messages_then y.after k y.local ∙ sym (local_messages x k l))
       (λ h. local_then_runs sizes M y.after k y.local (runs_behind sizes M (x ⨾ done) k one h)) (λ h. unbegun_then y.after k y.local (unbegun_behind (x ⨾ done) k h)) (λ h. every_then (is_named M) y.after k y.local (every_behind (talks_to (is_named M)) (x ⨾ done) k h)) in
       let e = depth_then y.after k in

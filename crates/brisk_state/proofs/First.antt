@@ -12,6 +12,7 @@ use Rattle.brisk_syntax.specs.WellTyped.{IsProgramWellTyped}
 use Rattle.brisk_facts.specs.Facts.{Facts}
 use Rattle.brisk_state.specs.Places.{names}
 use Rattle.brisk_state.specs.Symbolic.{all_first_facts, first_facts, first_thread}
+use Rattle.brisk_syntax.proofs.Codes.{distinct_later}
 
 -- the last declaration first
 pub first_last : (at : Name) (ds : List Decl) (d : Decl) (facts : Facts) → first_facts at (ds ++ d ∷ []) facts ≡ first_facts at ds (first_facts at (d ∷ []) facts)
@@ -32,10 +33,6 @@ over_none (r ∷ rs) = ap (first_facts r.name r.decls) (over_none rs)
 pub over_last : (rs : List RoleText) (r : RoleText) (facts : Facts) → over (rs ++ r ∷ []) facts ≡ over rs (first_facts r.name r.decls facts)
 over_last [] r facts = refl
 over_last (s ∷ rs) r facts = ap (first_facts s.name s.decls) (over_last rs r facts)
-
-distinct_later : (xs ys : List Name) → are_distinct (xs ++ ys) ≡ true → are_distinct ys ≡ true
-distinct_later [] ys e = e
-distinct_later (x ∷ xs) ys e = distinct_later xs ys (both_true (not (is_among (xs ++ ys) x)) (are_distinct (xs ++ ys)) e).1
 
 role_names : (rs : List RoleText) → names (map first_thread rs) ≡ map (λ r. r.name) rs
 role_names [] = refl

@@ -10,20 +10,13 @@ use Rattle.brisk_state.specs.declared.thread.Mode.{Mode}
 use Rattle.brisk_state.specs.declared.thread.Thread.{Thread}
 use Rattle.brisk_state.specs.Places.{names}
 use Rattle.brisk_state.specs.Symbolic.{thread_named, with_code, with_mode, with_thread}
-
-not_true : (b : Bool) → not b ≡ true → b ≡ false
-not_true true e = cc
-not_true false e = refl
+use Rattle.std.proofs.lemmas.Bool.{not-true, or_right}
 
 head_apart : (t : Thread) (ts : List Thread) → are_distinct (names (t ∷ ts)) ≡ true → is_among (names ts) t.name ≡ false
-head_apart t ts d = not_true _ (both_true (not (is_among (names ts) t.name)) (are_distinct (names ts)) d).0
+head_apart t ts d = not-true _ (both_true (not (is_among (names ts) t.name)) (are_distinct (names ts)) d).0
 
 tail_apart : (t : Thread) (ts : List Thread) → are_distinct (names (t ∷ ts)) ≡ true → are_distinct (names ts) ≡ true
 tail_apart t ts d = (both_true (not (is_among (names ts) t.name)) (are_distinct (names ts)) d).1
-
-or_true : (b c : Bool) → c ≡ true → (b || c) ≡ true
-or_true true c e = refl
-or_true false c e = e
 
 -- a thread's name is among the names
 among_at : (ts : List Thread) (i : ℕ) (u : Thread) → slice_get ts i ≡ Some u → is_among (names ts) u.name ≡ true
@@ -31,7 +24,7 @@ among_at [] i u h = cc
 among_at (t ∷ ts) zero u h =
     ap (λ (v : Thread). same_name u.name v.name || is_among (names ts) u.name) (same_Some t u h)
     ∙ ap (λ b. b || is_among (names ts) u.name) (name_laws.refl u.name)
-among_at (t ∷ ts) (suc i) u h = or_true (same_name u.name t.name) (is_among (names ts) u.name) (among_at ts i u h)
+among_at (t ∷ ts) (suc i) u h = or_right (same_name u.name t.name) (is_among (names ts) u.name) (among_at ts i u h)
 
 module _ (n : Name) (change : Thread → Thread) where
   none_changed : (ts : List Thread) → is_among (names ts) n ≡ false → with_thread n change ts ≡ ts

@@ -1,5 +1,7 @@
 -- What is asked of pending boxes: their list, and the least number that is free.
-use Rattle.std.specs.Prelude.{◌≡◌, ℕ, ◌<◌, ◌≤◌, Bool, true, false, List, [], ◌∷◌, ◌++◌, drop, map, Option, Some, None}
+use Rattle.std.specs.Prelude.{◌≡◌, ℕ, ◌<◌, ◌≤◌, ◌&&◌, not, nat_eq, Bool, true, false, List, [], ◌∷◌, ◌++◌, drop, map, Option, Some, None}
+use Rattle.std.specs.List.{list_any}
+use Rattle.brisk_values.specs.Names.{Name, same_name}
 use Rattle.brisk_state.specs.declared.pending.Pending.{Pending as Message}
 use Rattle.brisk_state.specs.Symbolic.{Key, Pending, is_in_use, key, numbers_at, with_numbers}
 
@@ -11,6 +13,10 @@ message k n = record { from = k.from; to = k.to; channel = k.channel; number = n
 abbrev pub messages : Pending → List Message
 messages [] = []
 messages (e ∷ es) = map (message e.0) e.1 ++ messages es
+
+-- among the boxes after, one pends for the thread that doesn't pend under its key among those before
+abbrev pub has_new_for : Pending → Pending → Name → Bool
+has_new_for before after u = list_any (λ e. same_name u e.0.to && list_any (λ n. not (list_any (nat_eq n) (numbers_at before e.0))) e.1) after
 
 -- it is the least number from 1 to 1,000,000 that fails the test; there is none where each passes
 abbrev pub IsLeastAbsent : (ℕ → Bool) → Option ℕ → Type 0

@@ -1,5 +1,6 @@
 //! Messages that pend, the keys under which they pend, and the numbers under one key.
-ghost use Rattle.std.specs.Prelude.{◌≡◌, ◌∷◌, [], ◌++◌, drop, length, map, slice_get, OnOk, OnErr};
+ghost use Rattle.std.specs.Prelude.{◌≡◌, ◌∷◌, [], ◌++◌, drop, length, map, not, slice_get, OnOk, OnErr};
+ghost use Rattle.std.specs.List.{list_any};
 ghost use Rattle.std.specs.Cmp.{partial_equiv_from_equiv};
 ghost use Rattle.std.proofs.lemmas.Cmp.{nat_list_eq_equiv};
 ghost use Rattle.std.specs.Prelude.{nat_eq};
@@ -92,6 +93,29 @@ impl Numbers {
         ensures { result ≡ slice_get self.now 0 }
     {
         self.items.front().copied()
+    }
+
+    // One of these numbers isn't among the others.
+    pub(crate) fn has_other(&self, others: &Numbers) -> bool
+        ensures { result ≡ list_any (λ n. not (list_any (nat_eq n) others.now)) self.now }
+    {
+        for number in &self.items {
+            if !others.has(*number) {
+                return true;
+            }
+        }
+        false
+    }
+
+    fn has(&self, number: u32) -> bool
+        ensures { result ≡ list_any (nat_eq number) self.now }
+    {
+        for other in &self.items {
+            if number == *other {
+                return true;
+            }
+        }
+        false
     }
 
     // Puts the number last.

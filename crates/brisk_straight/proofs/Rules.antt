@@ -1,10 +1,10 @@
 -- The basic rules on states of straight programs: each takes a statement, and one applies at each head but a receive's.
 use Rattle.std.proofs.Common.{◌≡◌, ◌⊎◌, inl, inr, ℕ, ◌+◌, ◌≤◌, Bool, true, false, List, [], ◌∷◌, ◌++◌, Option, Some, None, refl, sym, ap, ◌∙◌, subst, arith, nat_eq}
 use Rattle.std.specs.Prelude.{◌&&◌, ◌||◌, not, if◌then◌else◌, nat_le, Ok, Err}
-use Rattle.std.proofs.lemmas.Bool.{le-leb}
+use Rattle.std.proofs.lemmas.Bool.{le-leb, or_right}
 use Rattle.brisk_values.specs.declared.value.Value.{Value}
 use Rattle.brisk_values.specs.Names.{Name, same_name}
-use Rattle.brisk_values.proofs.Changes.{both_true, exact_name, name_laws}
+use Rattle.brisk_values.proofs.Changes.{both_true, exact_name, name_laws, both_hold}
 use Rattle.brisk_syntax.specs.declared.tree.Who.{Who}
 use Rattle.brisk_syntax.specs.declared.tree.Who.TheVariants as who
 use Rattle.brisk_syntax.specs.Classes.{all_local}
@@ -51,10 +51,6 @@ append_has m n (x ∷ ns) h = elim (either (nat_eq m x) (has m (ns ++ n ∷ []))
   | inl g ↦ inr (ap (λ b. b || has m ns) g)
   | inr g ↦ elim (append_has m n ns g) [ inl y ↦ inl y | inr y ↦ inr (or_right (nat_eq m x) (has m ns) y) ]
 ]
-  where
-    or_right : (a b : Bool) → b ≡ true → (a || b) ≡ true
-    or_right true b e = refl
-    or_right false b e = e
 
 -- the code behind a statement has fewer statements, and so has a side of a choice
 one_statement : (x : Statement) → 1 ≤ statements_in x
@@ -122,10 +118,6 @@ module _ (ns : List Name) (depth most : ℕ) where
                   ]))
             ] refl
       ] refl
-    where
-      or_right : (a b : Bool) → b ≡ true → (a || b) ≡ true
-      or_right true b e = refl
-      or_right false b e = e
 
   pass_gone : (S : Symbolic) (t u C : Name) (c d : Code) (r : Applied) → Straight S → code_at S t ≡ Some c → code_at S u ≡ Some d →
       pass S t u (sends S u C c) (receives S t C d) (numbers_at S.pending (key t u C)) ≡ Ok r → Goes S r.next
@@ -206,9 +198,6 @@ module _ (ns : List Name) (depth most : ℕ) where
       ∙ ap (λ m. same_name m n) (sym (exact_name n f.thread.name f.named))
       ∙ name_laws.refl n
 
-  both : (a b : Bool) → a ≡ true → b ≡ true → (a && b) ≡ true
-  both a b h k = ap (λ x. x && b) h ∙ k
-
   -- a send can be filled with a free number
   pub fill_applies : (S : Symbolic) (t C n : Name) (es : List Expression) (rest : Code) (number : ℕ) → Straight S → is_among ns n ≡ true → code_at S t ≡ Some (Send C es (who.Name n) ⨾ rest) →
       1 ≤ number → number ≤ 1000000 → is_in_use S.pending number ≡ false → (r : Applied) × (apply S (rule.Fill t n C number) ≡ Ok r)
@@ -219,8 +208,8 @@ module _ (ns : List Name) (depth most : ℕ) where
       } in (
         r,
         ap (λ o. at_thread o (λ code. fill S t n C number (sends S n C code))) here
-            ∙ ap (λ b. fill S t n C number (if b then Some (es, rest) else None)) (both (same_name C C) (stands_for S n (who.Name n)) (name_laws.refl C) (partner_stands S n s partner))
-            ∙ ap (λ b. when b BoxInUse (Ok r)) (both (nat_le 1 number && nat_le number 1000000) (not (is_in_use S.pending number)) (both (nat_le 1 number) (nat_le number 1000000) (le-leb 1 number low) (le-leb number 1000000 high)) (ap not unused)),
+            ∙ ap (λ b. fill S t n C number (if b then Some (es, rest) else None)) (both_hold (same_name C C) (stands_for S n (who.Name n)) (name_laws.refl C) (partner_stands S n s partner))
+            ∙ ap (λ b. when b BoxInUse (Ok r)) (both_hold (nat_le 1 number && nat_le number 1000000) (not (is_in_use S.pending number)) (both_hold (nat_le 1 number) (nat_le number 1000000) (le-leb 1 number low) (le-leb number 1000000 high)) (ap not unused)),
       )
 
   -- a receive takes what pends, or nothing pends
@@ -228,7 +217,7 @@ module _ (ns : List Name) (depth most : ℕ) where
       apply S (rule.Take n t C) ≡ Err why → numbers_at S.pending (key n t C) ≡ []
   take_applies S t C n xs rest why s partner here fails =
       let is = ap (λ o. at_thread o (λ code. take S n t C (receives S n C code) (numbers_at S.pending (key n t C)))) here
-      ∙ ap (λ b. take S n t C (if b then Some (xs, rest) else None) (numbers_at S.pending (key n t C))) (both (same_name C C) (stands_for S n (who.Name n)) (name_laws.refl C) (partner_stands S n s partner)) in
+      ∙ ap (λ b. take S n t C (if b then Some (xs, rest) else None) (numbers_at S.pending (key n t C))) (both_hold (same_name C C) (stands_for S n (who.Name n)) (name_laws.refl C) (partner_stands S n s partner)) in
       elim (numbers_at S.pending (key n t C)) as (λ l. take S n t C (Some (xs, rest)) l ≡ Err why → l ≡ []) [
         | [] ↦ λ g. refl
         | m ∷ ms ↦ λ g. cc

@@ -4,7 +4,7 @@ use Rattle.std.specs.Prelude.{◌&&◌, ◌||◌, not, if◌then◌else◌, sum_
 use Rattle.std.specs.List.{AllByRecursion, list_all}
 use Rattle.std.proofs.lemmas.List.Sums.{sum_by-cons}
 use Rattle.brisk_values.specs.Names.{Name, same_name}
-use Rattle.brisk_values.proofs.Changes.{both_true}
+use Rattle.brisk_values.proofs.Changes.{both_true, both_hold}
 use Rattle.brisk_syntax.specs.declared.program.Program.{Program}
 use Rattle.brisk_syntax.specs.declared.tree.Who.{Who}
 use Rattle.brisk_syntax.specs.declared.tree.Who.TheVariants as who
@@ -21,8 +21,9 @@ use Rattle.brisk_sound.proofs.Starts.{roles_distinct}
 use Rattle.brisk_rules.proofs.Threads.{names}
 use Rattle.brisk_straight.specs.Sources.{IsStraightSource}
 use Rattle.brisk_straight.proofs.Ends.{straight_program}
-use Rattle.brisk_straight.proofs.Events.{any_partner, both_are}
+use Rattle.brisk_straight.proofs.Events.{any_partner}
 use Rattle.brisk_straight.proofs.States.{one_of, left_in, left_cons, IsThread, IsStraightly}
+use Rattle.std.proofs.lemmas.Bool.{not-true}
 
 -- the names of roles
 abbrev pub role_names : List RoleText → List Name
@@ -52,7 +53,7 @@ code_talks : (P : Program) (r : RoleText) (c : Code) → every (talks_to any_par
 code_talks P r done h t = refl
 code_talks P r (s ⨾ c) h t =
     let e = both_true (talks_to any_partner s) (every (talks_to any_partner) c) h in
-    both_are (talks_to (one_of (role_names P.roles)) s) (every (talks_to (one_of (role_names P.roles))) c) (statement_talks P r s e.0 t.0) (code_talks P r c e.1 t.1)
+    both_hold (talks_to (one_of (role_names P.roles)) s) (every (talks_to (one_of (role_names P.roles))) c) (statement_talks P r s e.0 t.0) (code_talks P r c e.1 t.1)
 
 -- the initial state has a thread for each role
 threads_named : (roles : List RoleText) → names (map first_thread roles) ≡ role_names roles
@@ -65,10 +66,6 @@ all_left (r ∷ rs) =
     let a = left_cons (first_thread r) (map first_thread rs) in let b = sum_by-cons (λ (r : RoleText). statements r.code) r rs in let h = all_left rs in
     omega (arith, a, b, h)
 
-pub not_true : (b : Bool) → not b ≡ true → b ≡ false
-not_true true e = cc
-not_true false e = refl
-
 threads_straight : (P : Program) (most : ℕ) (roles : List RoleText) → list_all (λ (r : RoleText). not r.many && every (talks_to any_partner) r.code) roles ≡ true → AllByRecursion (IsRoleWellTyped P) roles →
     AllByRecursion (λ (r : RoleText). code_depth r.code ≤ 64) roles → AllByRecursion (IsThread (role_names P.roles) 256 most) (map first_thread roles)
 threads_straight P most [] one typed deep = tt
@@ -76,7 +73,7 @@ threads_straight P most (r ∷ rs) one typed deep =
     let e = both_true (not r.many && every (talks_to any_partner) r.code) (list_all (λ (r : RoleText). not r.many && every (talks_to any_partner) r.code) rs) one in
     let k = both_true (not r.many) (every (talks_to any_partner) r.code) e.0 in (
       record {
-        mode = ap (λ b. if b then Each else One) (not_true r.many k.0);
+        mode = ap (λ b. if b then Each else One) (not-true r.many k.0);
         code = record { straight = code_talks P r r.code k.1 typed.0.code; shallow = (let d = deep.0 in omega (arith, d)) };
       },
       threads_straight P most rs e.1 typed.1 deep.1,

@@ -4,7 +4,7 @@ use Rattle.std.specs.Prelude.{◌||◌, not, if◌then◌else◌, sum_by}
 use Rattle.std.specs.List.{AllByRecursion}
 use Rattle.std.proofs.lemmas.List.Sums.{sum_by-cons}
 use Rattle.brisk_values.specs.Names.{Name, same_name}
-use Rattle.brisk_values.proofs.Changes.{both_true, exact_name}
+use Rattle.brisk_values.proofs.Changes.{both_true, exact_name, both_hold}
 use Rattle.brisk_syntax.specs.declared.tree.Who.{Who}
 use Rattle.brisk_syntax.specs.declared.tree.Who.TheVariants as who
 use Rattle.brisk_syntax.specs.Classes.{every, is_local, all_local, talks_to}
@@ -18,8 +18,8 @@ use Rattle.brisk_state.specs.Symbolic.{Symbolic, Pending, key, thread_named, wit
 use Rattle.brisk_state.specs.Symbolic as symbolic
 use Rattle.brisk_rules.proofs.Readings.{has}
 use Rattle.brisk_rules.proofs.Threads.{names, names_with_code}
-use Rattle.brisk_straight.proofs.Events.{both_are}
 use Rattle.brisk_straight.proofs.Places.{none_changed}
+use Rattle.std.proofs.lemmas.Bool.{not-true, or_right}
 
 -- the partner is one of these single roles
 abbrev pub one_of : List Name → Who → Bool
@@ -35,7 +35,7 @@ every_then : (test : Who → Bool) (a b : Code) → all_local a ≡ true → eve
 every_then test done b h k = k
 every_then test (s ⨾ a) b h k =
     let e = both_true (is_local s) (all_local a) h in
-    both_are (talks_to test s) (every (talks_to test) (a then b)) (local_talks test s e.0) (every_then test a b e.1 k)
+    both_hold (talks_to test s) (every (talks_to test) (a then b)) (local_talks test s e.0) (every_then test a b e.1 k)
 
 pub depth_then : (a b : Code) → code_depth (a then b) ≡ max (code_depth a) (code_depth b)
 depth_then done b = omega arith
@@ -43,7 +43,7 @@ depth_then (s ⨾ a) b = let h = depth_then a b in omega (arith, h)
 
 pub all_local_then : (a b : Code) → all_local a ≡ true → all_local b ≡ true → all_local (a then b) ≡ true
 all_local_then done b h k = k
-all_local_then (s ⨾ a) b h k = let e = both_true (is_local s) (all_local a) h in both_are (is_local s) (all_local (a then b)) e.0 (all_local_then a b e.1 k)
+all_local_then (s ⨾ a) b h k = let e = both_true (is_local s) (all_local a) h in both_hold (is_local s) (all_local (a then b)) e.0 (all_local_then a b e.1 k)
 
 -- the statements that are left to threads
 abbrev pub left_in : List Thread → ℕ
@@ -82,10 +82,6 @@ thread_found Q (u ∷ us) n all e =
           record { thread = f.thread; is = ap (λ b. if b then Some u else thread_named us n) other ∙ f.is; named = f.named; holds = f.holds }
     ] refl e
 
-not_true : (b : Bool) → not b ≡ true → b ≡ false
-not_true true e = cc
-not_true false e = refl
-
 -- what is left after a thread's code was changed
 pub left_with : (ts : List Thread) (t : Name) (c k : Code) → are_distinct (names ts) ≡ true → active_code (thread_named ts t) ≡ Some c → left_in (with_code t k ts) + statements c ≡ left_in ts + statements k
 left_with [] t c k d e = cc
@@ -95,7 +91,7 @@ left_with (u ∷ us) t c k d e =
     left_in ((if b then record u { code = k } else u) ∷ with_code t k us) + statements c ≡ left_in (u ∷ us) + statements k) [
       | true ↦ λ same g.
           let code = ap statements (same_code (symbolic.is_active u.mode) c u.code g) in
-          let others = ap left_in (none_changed t k us (ap (is_among (names us)) (exact_name t u.name same) ∙ not_true (is_among (names us) u.name) h.0)) in
+          let others = ap left_in (none_changed t k us (ap (is_among (names us)) (exact_name t u.name same) ∙ not-true (is_among (names us) u.name) h.0)) in
           let a = left_cons record u { code = k } (with_code t k us) in let b = left_cons u us in
           omega (arith, a, b, code, others)
       | false ↦ λ other g.
@@ -189,10 +185,6 @@ module _ (ns : List Name) (depth most : ℕ) where
         };
         fewer = omega (arith, left, is, less);
       }
-    where
-      or_right : (a b : Bool) → b ≡ true → (a || b) ≡ true
-      or_right true b e = refl
-      or_right false b e = e
 
   -- and the pending messages stay
   pub alone_gone : (S E : Symbolic) (t : Name) (c k : Code) → IsStraightly S → code_at S t ≡ Some c → IsCode k → statements k + 1 ≤ statements c → E.threads ≡ with_code t k S.threads → E.pending ≡ S.pending → Gone S E

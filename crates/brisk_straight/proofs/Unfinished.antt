@@ -13,8 +13,8 @@ use Rattle.brisk_state.specs.Symbolic as symbolic
 use Rattle.brisk_state.proofs.Threads.{code_itself}
 use Rattle.brisk_rules.specs.Derives.{first_unfinished}
 use Rattle.brisk_rules.proofs.Threads.{names}
-use Rattle.brisk_straight.proofs.Starts.{not_true}
 use Rattle.brisk_straight.proofs.States.{IsThread}
+use Rattle.std.proofs.lemmas.Bool.{not-true}
 
 module _ (ns : List Name) (depth most : ℕ) where
   in_names : (ts : List Thread) (t : Name) {c : Code} → active_code (thread_named ts t) ≡ Some c → is_among (names ts) t ≡ true
@@ -41,7 +41,7 @@ module _ (ns : List Name) (depth most : ℕ) where
               elim (same_name x.0 u.name) as (λ b. same_name x.0 u.name ≡ b → active_code (if b then Some u else thread_named us x.0) ≡ Some (x.1 ⨾ x.2)) [
                 | true ↦ λ same. absurd (
                     let among = in_names us x.0 x.3 in
-                    let none = ap (is_among (names us)) (exact_name x.0 u.name same) ∙ not_true (is_among (names us) u.name) h.0 in
+                    let none = ap (is_among (names us)) (exact_name x.0 u.name same) ∙ not-true (is_among (names us) u.name) h.0 in
                     let both = sym among ∙ none in cc)
                 | false ↦ λ other. x.3
               ] refl,

@@ -1,9 +1,13 @@
--- Lists of statements, one after another.
-use Rattle.std.proofs.Common.{◌≡◌, ℕ, suc, ◌+◌, ◌<◌, List, [], ◌∷◌, ◌++◌, length, drop, get_or, refl, sym, ap, ◌∙◌}
+-- Lists of statements, one after another, and of names that differ.
+use Rattle.std.proofs.Common.{◌≡◌, true, ℕ, suc, ◌+◌, ◌<◌, List, [], ◌∷◌, ◌++◌, length, drop, get_or, refl, sym, ap, ◌∙◌}
+use Rattle.std.specs.Prelude.{◌&&◌, not}
 use Rattle.std.proofs.lemmas.List.{at_drop_more}
+use Rattle.brisk_values.specs.Names.{Name}
+use Rattle.brisk_values.proofs.Changes.{both_true}
 use Rattle.brisk_syntax.specs.Syntax.{Statement, Code, done, ◌⨾◌}
 use Rattle.brisk_syntax.specs.Syntax.{◌then◌}
 use Rattle.brisk_syntax.specs.Statements.{code_of, statement_of}
+use Rattle.brisk_syntax.specs.Typing.{are_distinct, is_among}
 use Rattle.brisk_syntax.specs.declared.tree.Stmt.{Stmt}
 
 pub then-done : (c : Code) → c then done ≡ c
@@ -31,3 +35,8 @@ same_length [] [] e = refl
 same_length [] (t ∷ ys) e = cc
 same_length (s ∷ xs) [] e = cc
 same_length (s ∷ xs) (t ∷ ys) e = let f : code_of xs ≡ code_of ys = cc in ap suc (same_length xs ys f)
+
+-- of names that differ, the later ones do
+pub distinct_later : (xs ys : List Name) → are_distinct (xs ++ ys) ≡ true → are_distinct ys ≡ true
+distinct_later [] ys e = e
+distinct_later (x ∷ xs) ys e = distinct_later xs ys (both_true (not (is_among (xs ++ ys) x)) (are_distinct (xs ++ ys)) e).1

@@ -5,7 +5,7 @@ use Rattle.brisk_syntax.specs.Syntax.{Code, done, ◌⨾◌, ◌then◌}
 use Rattle.brisk_syntax.specs.Statements.{code_of, statement_of}
 use Rattle.brisk_syntax.specs.Segments.{head_of, rest_of, code_length, statement_at, code_from_place, backwards}
 use Rattle.brisk_syntax.specs.declared.tree.Stmt.{Stmt}
-use Rattle.brisk_syntax.proofs.Codes.{then_assoc}
+use Rattle.brisk_syntax.proofs.Codes.{then_assoc, then-done}
 
 pub length_code : (xs : List Stmt) → code_length (code_of xs) ≡ length xs
 length_code [] = refl
@@ -60,10 +60,6 @@ at-then_behind (s ⨾ c) d (suc k) n h = at-then_behind c d k n (omega arith)
 
 pub backwards-append : (xs ys : List Code) → backwards (xs ++ ys) ≡ backwards ys then backwards xs
 backwards-append [] ys = sym (then-done (backwards ys))
-  where
-    then-done : (c : Code) → c then done ≡ c
-    then-done done = refl
-    then-done (s ⨾ c) = ap (λ d. s ⨾ d) (then-done c)
 backwards-append (c ∷ xs) ys = ap (λ d. d then c) (backwards-append xs ys) ∙ then_assoc (backwards ys) (backwards xs) c
 
 pub place_length : (k : ℕ) (c : Code) → code_length (code_from_place k c) ≡ code_length c - k

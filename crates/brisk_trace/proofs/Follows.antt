@@ -5,7 +5,7 @@ use Rattle.std.specs.List.{AllByRecursion}
 use Rattle.std.proofs.lemmas.Option.{same_Some}
 use Rattle.brisk_values.specs.declared.value.Pid.{Pid}
 use Rattle.brisk_values.specs.Names.{same_process}
-use Rattle.brisk_values.proofs.Changes.{both_true, exact_process, process_laws}
+use Rattle.brisk_values.proofs.Changes.{both_true, exact_process, process_laws, both_hold}
 use Rattle.brisk_syntax.specs.Depths.{code_depth}
 use Rattle.brisk_syntax.specs.WellTyped.{all_unbegun}
 use Rattle.brisk_async.proofs.Heads.{done_effect}
@@ -18,7 +18,8 @@ use Rattle.brisk_trace.specs.declared.standing.Standing.{Standing}
 use Rattle.brisk_trace.specs.Gathers.{gather_at, open_runs, with_begun}
 use Rattle.brisk_trace.specs.Standings.{closed, followed, followed_by, in_first, is_in, opened, received, tail, takes_again, taking}
 use Rattle.brisk_trace.proofs.Histories.{HasTaken, added, before_or_last, code_at, extended, none_anew}
-use Rattle.brisk_trace.proofs.Steady.{Above, Deep, above_less, all_steady, any_next, both, is_steady, not_anew, not_at_receive, not_outer, open_first, open_later, open_next, other_next, turn_is, turn_next}
+use Rattle.brisk_trace.proofs.Steady.{Above, Deep, above_less, all_steady, any_next, is_steady, not_anew, not_at_receive, not_outer, open_first, open_later, open_next, other_next, turn_is, turn_next}
+use Rattle.std.proofs.lemmas.Bool.{or_right}
 
 -- what goes together in order still does, where it is so of each
 pub pair_keeps : {A B : Type 0} (P : A → Type 0) (R S : A → B → Type 0) → ((x : A) (y : B) → P x → R x y → S x y) → (xs : List A) (ys : List B) → AllByRecursion P xs → Pairwise R xs ys → Pairwise S xs ys
@@ -50,10 +51,6 @@ either false b h = inr h
 
 first_of : (a b : Bool) → a ≡ true → (a || b) ≡ true
 first_of a b h = ap (λ x. x || b) h
-
-second_of : (a b : Bool) → b ≡ true → (a || b) ≡ true
-second_of true b h = refl
-second_of false b h = h
 
 -- whether the process has begun a turn that its code is at the receive of, and what its code keeps to otherwise
 abbrev pub Stands : Bool → Code → Type 0
@@ -122,7 +119,7 @@ module _ (s : State) where
       ],
       λ h. one_more_in ws v w ∙ elim (before_or_last s es e e.process g (Some w) h) [
         | inl old ↦ first_of (is_in ws w) (same_process v w) ((told w).1 old)
-        | inr last ↦ second_of (is_in ws w) (same_process v w) (ap (same_process v) (sym (same_Some v w (sym sender ∙ last.1))) ∙ process_laws.refl v)
+        | inr last ↦ or_right (is_in ws w) (same_process v w) (ap (same_process v) (sym (same_Some v w (sym sender ∙ last.1))) ∙ process_laws.refl v)
       ],
     )
 
@@ -141,7 +138,7 @@ module _ (s : State) where
         let bare = (both_true (all_unbegun g.body) true ready.0).0 in
         let deep : Deep (at_turn g k) = subst Deep at (subst (λ b. Stands b c) out h.stands) in
         record {
-          steady = ap all_steady to ∙ both (all_unbegun g.body) (all_steady (at_turn g (k + 1))) bare (both (all_unbegun g.body && true) (all_steady g.rest) ready.0 ready.1);
+          steady = ap all_steady to ∙ both_hold (all_unbegun g.body) (all_steady (at_turn g (k + 1))) bare (both_hold (all_unbegun g.body && true) (all_steady g.rest) ready.0 ready.1);
           stands = (g, k, to, deep);
           taken = subst (λ gs. Pairwise (IsTold (es ++ e ∷ []) e.process) gs (opened k st.runs)) (sym opens) (by k (ap open_runs (sym at)) (subst (λ b. c ≡ at_turn g b) refl at));
         }
@@ -271,7 +268,7 @@ module _ (s : State) where
   pub taken_again : (v : View) (x : Effect) (place : Option ℕ) (es : List Event) (p : Pid) (c : Code) (st : Standing) (from : Option Pid) (g : Gather) (k : ℕ) → effect v p c from place ≡ Some x → c ≡ at_receive g k → HasTaken s es p g from → Follows es p c st → takes_again from st ≡ true
   taken_again v x place es p c st None g k does at taken h = let nothing = sym does ∙ ap (λ z. effect v p z None place) at in cc
   taken_again v x place es p c st (Some w) g k does at taken h =
-      both st.at_receive (in_first st.runs w) (receiving st.at_receive h.stands) ((again_at es p c st g k at h w).1 taken)
+      both_hold st.at_receive (in_first st.runs w) (receiving st.at_receive h.stands) ((again_at es p c st g k at h w).1 taken)
     where
       receiving : (b : Bool) → Stands b c → b ≡ true
       receiving true stands = refl

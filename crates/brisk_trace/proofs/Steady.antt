@@ -7,7 +7,7 @@ use Rattle.std.proofs.lemmas.Bool.{eqb-true}
 use Rattle.std.proofs.lemmas.Option.{same_Some}
 use Rattle.brisk_values.specs.declared.value.Pid.{Pid}
 use Rattle.brisk_values.specs.Names.{Name, member, same_name}
-use Rattle.brisk_values.proofs.Changes.{both_true, exact_name, name_laws}
+use Rattle.brisk_values.proofs.Changes.{both_true, exact_name, name_laws, both_hold}
 use Rattle.brisk_syntax.specs.declared.tree.Stmt.{Stmt}
 use Rattle.brisk_syntax.specs.declared.tree.Who.{Who}
 use Rattle.brisk_syntax.specs.declared.tree.Who.TheVariants as who
@@ -113,9 +113,6 @@ abbrev pub all_steady : Code → Bool
 all_steady done = true
 all_steady (s ⨾ c) = is_steady s && all_steady c
 
-pub both : (a b : Bool) → a ≡ true → b ≡ true → (a && b) ≡ true
-both a b h k = ap (λ x. x && b) h ∙ k
-
 steady_of : (s : Statement) → is_unbegun s ≡ true → is_steady s ≡ true
 steady_of (For v s k b) h = (both_true (nat_eq k 0) (all_unbegun b) h).1
 steady_of (Repeat s k b) h = (both_true (nat_eq k 0) (all_unbegun b) h).1
@@ -123,11 +120,11 @@ steady_of s h = h
 
 pub all_steady_of : (c : Code) → all_unbegun c ≡ true → all_steady c ≡ true
 all_steady_of done h = refl
-all_steady_of (s ⨾ c) h = let e = both_true (is_unbegun s) (all_unbegun c) h in both (is_steady s) (all_steady c) (steady_of s e.0) (all_steady_of c e.1)
+all_steady_of (s ⨾ c) h = let e = both_true (is_unbegun s) (all_unbegun c) h in both_hold (is_steady s) (all_steady c) (steady_of s e.0) (all_steady_of c e.1)
 
 steady_then : (f d : Code) → all_unbegun f ≡ true → all_steady d ≡ true → all_steady (f then d) ≡ true
 steady_then done d h k = k
-steady_then (s ⨾ f) d h k = let e = both_true (is_unbegun s) (all_unbegun f) h in both (is_steady s) (all_steady (f then d)) (steady_of s e.0) (steady_then f d e.1 k)
+steady_then (s ⨾ f) d h k = let e = both_true (is_unbegun s) (all_unbegun f) h in both_hold (is_steady s) (all_steady (f then d)) (steady_of s e.0) (steady_then f d e.1 k)
 
 -- a statement at turn 0 is no begun gather
 none_begun : (k : ℕ) (o : Option Gather) (gs : List Gather) → k ≡ 0 → with_begun (option_map (λ g. (g, k)) o) gs ≡ gs
@@ -270,15 +267,15 @@ other_next v p (IfElse e c d) rest None None x h g u steady a deep =
     branch false k l = l
 other_next v p (While e c) rest None None x h g u steady a deep =
     into rest _ x h (choice (is_true (value_of v.sizes v.own e)) rest (c then (While e c ⨾ rest)) rest
-    (with_body (code_depth c + 1) c (While e c ⨾ rest) rest u (omega arith) a refl (both (all_unbegun c) (all_steady rest) u steady) (a, deep)) (as_it_is rest steady deep))
+    (with_body (code_depth c + 1) c (While e c ⨾ rest) rest u (omega arith) a refl (both_hold (all_unbegun c) (all_steady rest) u steady) (a, deep)) (as_it_is rest steady deep))
 other_next v p (For y s k c) rest None None x h g u steady a deep =
     let f = code_with y (who.Pid (member s k)) c in
     into rest _ x h (choice (nat_lt k (v.sizes s)) rest (f then (For y s (k + 1) c ⨾ rest)) rest
-    (with_body (code_depth c + 1) f (For y s (k + 1) c ⨾ rest) rest (unbegun_map (who_with y (who.Pid (member s k))) c ∙ u) (let same : code_depth f ≡ code_depth c = depth_map (who_with y (who.Pid (member s k))) c in omega arith) a refl (both (all_unbegun c) (all_steady rest) u steady) (a, deep)) (as_it_is rest steady deep))
+    (with_body (code_depth c + 1) f (For y s (k + 1) c ⨾ rest) rest (unbegun_map (who_with y (who.Pid (member s k))) c ∙ u) (let same : code_depth f ≡ code_depth c = depth_map (who_with y (who.Pid (member s k))) c in omega arith) a refl (both_hold (all_unbegun c) (all_steady rest) u steady) (a, deep)) (as_it_is rest steady deep))
 other_next v p (Repeat s k c) rest None None x h g u steady a deep =
     let same : open_runs (Repeat s (k + 1) c ⨾ rest) ≡ open_runs rest = ap (λ o. with_begun o (open_runs rest)) (none_shaped (λ z. (z, k)) (λ z. (z, k + 1)) (gather_of s c rest) g) in
     into rest _ x h (choice (nat_lt k (v.sizes s)) rest (c then (Repeat s (k + 1) c ⨾ rest)) rest
-    (with_body (code_depth c + 1) c (Repeat s (k + 1) c ⨾ rest) rest u (omega arith) (subst (AllByRecursion (λ (z : Gather). code_depth c + 1 ≤ code_depth z.body)) (sym same) a) same (both (all_unbegun c) (all_steady rest) u steady) (a, deep)) (as_it_is rest steady deep))
+    (with_body (code_depth c + 1) c (Repeat s (k + 1) c ⨾ rest) rest u (omega arith) (subst (AllByRecursion (λ (z : Gather). code_depth c + 1 ≤ code_depth z.body)) (sym same) a) same (both_hold (all_unbegun c) (all_steady rest) u steady) (a, deep)) (as_it_is rest steady deep))
 other_next v p s rest sender place x h g u steady a deep = cc
 
 -- the code at a gather's beginning goes to its receive, or to the code behind

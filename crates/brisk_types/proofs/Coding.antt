@@ -2,7 +2,7 @@
 use Rattle.std.proofs.Common.{◌≡◌, ℕ, ◌+◌, Bool, true, false, ◌||◌, ◌&&◌, not, List, [], ◌∷◌, ◌++◌, length, map, Option, Some, None, nat_eq, refl, sym, ap, subst, ◌∙◌}
 use Rattle.std.specs.Prelude.{if◌then◌else◌}
 use Rattle.std.specs.Option.{is_none, is_some}
-use Rattle.std.proofs.lemmas.Bool.{eqb-true}
+use Rattle.std.proofs.lemmas.Bool.{eqb-true, not-true}
 use Rattle.std.proofs.Common.{eq-eqb}
 use Rattle.std.proofs.lemmas.List.Folds.{list_any-append}
 use Rattle.brisk_values.specs.declared.value.Kind.{Kind}
@@ -22,9 +22,10 @@ use Rattle.brisk_types.specs.Expressions.{Meaning, wanted}
 use Rattle.brisk_types.specs.Failures.{NoneFails, broken}
 use Rattle.brisk_types.specs.Statements.{binder, partner_rule, set_rule, channel_rule, wanted_kinds, values, variables, received, statement, code}
 use Rattle.brisk_types.proofs.Declaring.{new_binder, binder_new, is_declared}
-use Rattle.brisk_types.proofs.Fresh.{not_when, when_not, neither, both_false, not_false, fresh_distinct, all_fresh}
+use Rattle.brisk_types.proofs.Fresh.{not_when, when_not, both_false, fresh_distinct, all_fresh}
 use Rattle.brisk_types.proofs.Indexes.{any_last}
 use Rattle.brisk_types.proofs.Kinded.{within, not_broken, unbroken, there, of_kind, is_of_kind, values_have, have_values, variables_are, are_variables}
+use Rattle.brisk_values.proofs.Changes.{neither}
 
 -- ---- tests
 
@@ -99,7 +100,7 @@ module _ (P : Program) (r : RoleText) where
 
   is_fresh_binder : (binders scope : List Name) → Same binders scope → (i : ℕ) (v : Name) → is_fresh P r scope v ≡ true → NoneFails (binder M binders i v)
   is_fresh_binder binders scope e i v h =
-      let all = neither (is_among scope v || is_some (kind_in r.decls v)) (is_among (globals P) v) (sym (fresh_parts scope v) ∙ not_false (is_among (scope ++ map variable_of r.decls ++ globals P) v) h) in
+      let all = neither (is_among scope v || is_some (kind_in r.decls v)) (is_among (globals P) v) (sym (fresh_parts scope v) ∙ not-true (is_among (scope ++ map variable_of r.decls ++ globals P) v) h) in
       let two = neither (is_among scope v) (is_some (kind_in r.decls v)) all.0 in
       binder_new P r.name (kind_in r.decls) binders i v (e v ∙ two.0) two.1 all.1
 

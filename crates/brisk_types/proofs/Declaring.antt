@@ -24,9 +24,11 @@ use Rattle.brisk_types.specs.Declarations.{placed, placed_enums, placed_channels
 use Rattle.brisk_types.specs.Expressions.{wrong, tag_kind}
 use Rattle.brisk_types.specs.Failures.{NoneFails}
 use Rattle.brisk_types.specs.Statements.{clash, binder}
-use Rattle.brisk_types.proofs.Fresh.{Fresh, names_of, not_when, when_not, neither, both_false, not_true, is_placed, fresh_distinct, all_fresh}
+use Rattle.brisk_types.proofs.Fresh.{Fresh, names_of, not_when, when_not, both_false, is_placed, fresh_distinct, all_fresh}
 use Rattle.brisk_types.proofs.Indexes.{any_last, some_or}
 use Rattle.brisk_types.proofs.Kinded.{within, agree, fine, tag_enum}
+use Rattle.std.proofs.lemmas.Bool.{not-false}
+use Rattle.brisk_values.proofs.Changes.{neither}
 
 -- ---- the names that are known everywhere
 
@@ -76,7 +78,7 @@ module _ (P : Program) (own : Name) (f : Name → Option Kind) where
   constant_has i k (constant.Num negative n) h g = agree k kind.Int (Some k) (Some kind.Int) i refl refl h
   constant_has i k (constant.Bool b) h g = agree k kind.Bool (Some k) (Some kind.Bool) i refl refl h
   constant_has i k (constant.Tag e t) h g =
-      let is : is_tag P.enums e t ≡ true = not_true (is_tag P.enums e t) (not_when (not (is_tag P.enums e t)) Unknown (i + 2) g.1) in
+      let is : is_tag P.enums e t ≡ true = not-false (is_tag P.enums e t) (not_when (not (is_tag P.enums e t)) Unknown (i + 2) g.1) in
       (agree k (kind.Enum e) (Some k) (tag_kind (within P own f) e t) i refl (ap (λ b. if b then Some (kind.Enum e) else None) is) h, is)
 
   has_constant : (i : ℕ) (k : Kind) (c : Const) → ConstantHasKind P.enums c k → NoneFails (wrong (Some k) (constant_kind (within P own f) c) i) × NoneFails (constant_at (within P own f) i c)
@@ -90,7 +92,7 @@ module _ (P : Program) (own : Name) (f : Name → Option Kind) where
 pub kind_known : (enums : List EnumDecl) (i : ℕ) (k : Kind) → NoneFails (kind_at (is_enum_of enums) i k) → is_kind enums k ≡ true
 kind_known enums i kind.Int h = refl
 kind_known enums i kind.Bool h = refl
-kind_known enums i (kind.Enum e) h = not_true (is_enum_of enums e) (not_when (not (is_enum_of enums e)) Unknown i h)
+kind_known enums i (kind.Enum e) h = not-false (is_enum_of enums e) (not_when (not (is_enum_of enums e)) Unknown i h)
 
 pub known_kind : (enums : List EnumDecl) (i : ℕ) (k : Kind) → is_kind enums k ≡ true → NoneFails (kind_at (is_enum_of enums) i k)
 known_kind enums i kind.Int h = tt

@@ -5,7 +5,7 @@ use Rattle.std.specs.List.{AllByRecursion}
 use Rattle.std.specs.Option.{is_some}
 use Rattle.std.proofs.lemmas.List.{map-append}
 use Rattle.brisk_values.specs.Names.{Name, same_name}
-use Rattle.brisk_values.proofs.Changes.{name_laws, both_true}
+use Rattle.brisk_values.proofs.Changes.{name_laws, both_true, both_hold, neither}
 use Rattle.brisk_syntax.specs.Typing.{is_among, are_distinct}
 use Rattle.brisk_types.specs.declared.fault.Rule.{Rule}
 use Rattle.brisk_types.specs.declared.fault.Rule.TheVariants.{Twice}
@@ -13,6 +13,7 @@ use Rattle.brisk_types.specs.declared.places.Placed.{Placed}
 use Rattle.brisk_types.specs.Declarations.{apart, place_of, tags}
 use Rattle.brisk_types.specs.Failures.{NoneFails, when}
 use Rattle.brisk_types.proofs.Indexes.{any_last}
+use Rattle.std.proofs.lemmas.Bool.{not-false, not-true}
 
 -- ---- tests
 
@@ -24,25 +25,9 @@ pub when_not : (b : Bool) (r : Rule) (i : ℕ) → b ≡ false → NoneFails (wh
 when_not true r i h = cc
 when_not false r i h = tt
 
-pub neither : (a b : Bool) → (a || b) ≡ false → (a ≡ false) × (b ≡ false)
-neither true b h = cc
-neither false b h = (refl, h)
-
 pub both_false : (a b : Bool) → a ≡ false → b ≡ false → (a || b) ≡ false
 both_false true b h k = cc
 both_false false b h k = k
-
-pub both_are : (a b : Bool) → a ≡ true → b ≡ true → (a && b) ≡ true
-both_are true b h k = k
-both_are false b h k = cc
-
-pub not_true : (b : Bool) → not b ≡ false → b ≡ true
-not_true true h = refl
-not_true false h = cc
-
-pub not_false : (b : Bool) → not b ≡ true → b ≡ false
-not_false true h = cc
-not_false false h = refl
 
 -- ---- names
 
@@ -77,13 +62,13 @@ fresh_distinct before [] h = (refl, tt)
 fresh_distinct before (x ∷ xs) h =
     let rest = fresh_distinct (before ++ x ∷ []) xs h.1 in
     let out = last_out before x xs rest.1 in
-    (both_are (not (is_among xs x)) (are_distinct xs) (ap not out.1) rest.0, (h.0, out.0))
+    (both_hold (not (is_among xs x)) (are_distinct xs) (ap not out.1) rest.0, (h.0, out.0))
 
 pub distinct_fresh : (before xs : List Name) → are_distinct xs ≡ true → NoneAmong before xs → Fresh before xs
 distinct_fresh before [] h k = tt
 distinct_fresh before (x ∷ xs) h k =
     let parts = both_true (not (is_among xs x)) (are_distinct xs) h in
-    (k.0, distinct_fresh (before ++ x ∷ []) xs parts.1 (last_in before x xs k.1 (not_false (is_among xs x) parts.0)))
+    (k.0, distinct_fresh (before ++ x ∷ []) xs parts.1 (last_in before x xs k.1 (not-true (is_among xs x) parts.0)))
 
 none_before : (xs : List Name) → NoneAmong [] xs
 none_before [] = tt

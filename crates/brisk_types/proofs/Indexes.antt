@@ -13,6 +13,7 @@ use Rattle.brisk_types.specs.Failures.{note_all, when}
 use Rattle.brisk_types.specs.declared.fault.Failure.{Failure}
 use Rattle.brisk_types.specs.declared.fault.Rule.TheVariants.{Twice}
 use Rattle.brisk_types.specs.declared.places.Placed.{Placed}
+use Rattle.std.proofs.Math.Bool.{or-false}
 
 -- ---- one more item of a list
 
@@ -23,12 +24,8 @@ module _ {X : Type 0} (xs : List X) (i : ℕ) (x : X) (lt : i < length xs) (at :
   pub drop_item : drop i xs ≡ x ∷ drop (i + 1) xs
   drop_item = drop_more xs i x lt ∙ ap (λ y. y ∷ drop (i + 1) xs) (sym at)
 
-or_false : (b : Bool) → (b || false) ≡ b
-or_false true = refl
-or_false false = refl
-
 pub any_last : {X : Type 0} (p : X → Bool) (xs : List X) (x : X) → list_any p (xs ++ x ∷ []) ≡ (list_any p xs || p x)
-any_last p xs x = list_any-append p xs (x ∷ []) ∙ ap (λ b. list_any p xs || b) (or_false (p x))
+any_last p xs x = list_any-append p xs (x ∷ []) ∙ ap (λ b. list_any p xs || b) (or-false (p x))
 
 -- what one more item makes of a test of any
 pub any_item : {X : Type 0} (p : X → Bool) (xs : List X) (i : ℕ) (x : X) → i < length xs → x ≡ get_or xs i x → list_any p (take (i + 1) xs) ≡ (list_any p (take i xs) || p x)

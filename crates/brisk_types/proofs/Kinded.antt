@@ -23,7 +23,8 @@ use Rattle.brisk_types.specs.Declarations.{is_enum_of, meaning}
 use Rattle.brisk_types.specs.Expressions.{Meaning, differ, wrong, kind_of, size_rule, expression, wanted}
 use Rattle.brisk_types.specs.Failures.{NoneFails, broken}
 use Rattle.brisk_types.specs.Statements.{values, variables}
-use Rattle.brisk_types.proofs.Fresh.{not_when, when_not, not_true, Fresh}
+use Rattle.brisk_types.proofs.Fresh.{not_when, when_not, Fresh}
+use Rattle.std.proofs.lemmas.Bool.{not-false}
 
 -- ---- kinds
 
@@ -42,7 +43,7 @@ kind_refl (kind.Enum e) = name_laws.refl e
 pub agree : (j l : Kind) (o p : Option Kind) (i : ℕ) → o ≡ Some j → p ≡ Some l → NoneFails (wrong o p i) → j ≡ l
 agree j l o p i eo ep h =
     let both : differ o p ≡ not (same_kind j l) = λ z. differ (eo z) (ep z) in
-    exact_kind j l (not_true (same_kind j l) (sym both ∙ not_when (differ o p) WrongKind i h))
+    exact_kind j l (not-false (same_kind j l) (sym both ∙ not_when (differ o p) WrongKind i h))
 
 pub fine : (j : Kind) (o p : Option Kind) (i : ℕ) → o ≡ Some j → p ≡ Some j → NoneFails (wrong o p i)
 fine j o p i eo ep =
@@ -106,7 +107,7 @@ module _ (P : Program) (own : Name) (ds : List Decl) where
   typed i (Truth b) h = (kind.Bool, refl, refl)
   typed i (Var x) h = let k = there (kind_in ds x) (not_when (is_none (kind_in ds x)) Unknown i h) in (k.0, k.1, k.1)
   typed i (Tag e t) h =
-      let known : is_tag P.enums e t ≡ true = not_true (is_tag P.enums e t) (not_when (not (is_tag P.enums e t)) Unknown (i + 2) h.1) in
+      let known : is_tag P.enums e t ≡ true = not-false (is_tag P.enums e t) (not_when (not (is_tag P.enums e t)) Unknown (i + 2) h.1) in
       (kind.Enum e, ap (λ b. if b then Some (kind.Enum e) else None) known, (refl, known))
   typed i (Size s) h = (kind.Int, refl, (refl, is_sized (is_set P.roles s) (same_name s own) (is_single P.roles s) (not_broken (size_rule M s) (i + 1) h)))
   typed i (Paren e) h = typed (i + 1) e h

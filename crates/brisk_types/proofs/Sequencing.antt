@@ -3,7 +3,7 @@ use Rattle.std.proofs.Common.{◌≡◌, ℕ, ◌+◌, Bool, true, false, ◌||�
 use Rattle.std.specs.Prelude.{if◌then◌else◌, option_map}
 use Rattle.std.specs.List.{AllByRecursion, list_any}
 use Rattle.std.specs.Option.{is_some}
-use Rattle.std.proofs.lemmas.Bool.{eqb-true}
+use Rattle.std.proofs.lemmas.Bool.{eqb-true, not-false}
 use Rattle.brisk_values.specs.declared.value.Kind.{Kind}
 use Rattle.brisk_values.specs.declared.value.Kind.TheVariants as kind
 use Rattle.brisk_values.specs.Names.{Name, same_name}
@@ -29,7 +29,7 @@ use Rattle.brisk_types.specs.Statements.{values, variables}
 use Rattle.brisk_types.proofs.Agreeing.{names_differ, differ_names, enums_typed, typed_enums}
 use Rattle.brisk_types.proofs.Coding.{Same, one_more}
 use Rattle.brisk_types.proofs.Declaring.{are_decls, decls_are, behind_is}
-use Rattle.brisk_types.proofs.Fresh.{not_when, when_not, not_true, fresh_distinct, all_fresh}
+use Rattle.brisk_types.proofs.Fresh.{not_when, when_not, fresh_distinct, all_fresh}
 use Rattle.brisk_types.proofs.Kinded.{within, not_broken, unbroken, of_kind, is_of_kind, values_typed, typed_values, variables_known, known_variables}
 
 -- ---- tests
@@ -178,7 +178,7 @@ module _ (Q : SeqProgram) where
   mutual
     item_typed : (focus scope : List Name) → Focused focus scope → (i : ℕ) (q : Item) → NoneFails (item N focus i q) → IsItemWellTyped Q scope q
     item_typed focus scope f i (Pass to xs from es) h =
-        let count : length xs ≡ length es = eqb-true (length xs) (length es) (not_true (nat_eq (length xs) (length es)) (not_when (not (nat_eq (length xs) (length es))) WrongCount i h.0)) in
+        let count : length xs ≡ length es = eqb-true (length xs) (length es) (not-false (nat_eq (length xs) (length es)) (not_when (not (nat_eq (length xs) (length es))) WrongCount i h.0)) in
         let at = i + 3 + name_tokens xs in
         let t = stored_typed focus scope i to xs f h.1.0 in
         let s = process focus scope (at + 2) from f h.1.1.0 in

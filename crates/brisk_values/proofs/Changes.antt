@@ -1,6 +1,6 @@
 -- Functions changed at a key, and keys that are told to be the same.
 use Rattle.std.proofs.Common.{◌≡◌, Bool, true, false, [], ◌∷◌, nat_eq, refl, sym, ap, ◌∙◌, subst}
-use Rattle.std.specs.Prelude.{if◌then◌else◌, ◌&&◌}
+use Rattle.std.specs.Prelude.{if◌then◌else◌, ◌&&◌, ◌||◌}
 use Rattle.std.proofs.lemmas.Bool.{eqb-true}
 use Rattle.std.specs.Cmp.{IsEquivalence}
 use Rattle.std.proofs.lemmas.Cmp.{nat_eq_equiv, nat_list_eq_equiv, on_equiv, and_equiv}
@@ -43,12 +43,19 @@ module _ {K : Type 0} {same : K → K → Bool} (laws : IsEquivalence same) wher
       ∙ (λ i q. two_tests (same k q) (same l q) (g (f k)) (h (f l)) (f q) (disjoint k l e q) i)
       ∙ sym (ap (λ z. changed same (changed same f l (h (f l))) k (g z)) (changed-other f l (h (f l)) k (apart_symm k l e)))
 
--- keys that are told to be the same are equal
 pub both_true : (a b : Bool) → (a && b) ≡ true → (a ≡ true) × (b ≡ true)
 both_true true true e = (refl, refl)
 both_true true false e = cc
 both_true false b e = cc
 
+pub both_hold : (a b : Bool) → a ≡ true → b ≡ true → (a && b) ≡ true
+both_hold a b h k = ap (λ x. x && b) h ∙ k
+
+pub neither : (a b : Bool) → (a || b) ≡ false → (a ≡ false) × (b ≡ false)
+neither true b e = cc
+neither false b e = (refl, e)
+
+-- keys that are told to be the same are equal
 pub exact_name : (a b : Name) → same_name a b ≡ true → a ≡ b
 exact_name [] [] e = refl
 exact_name [] (y ∷ b) e = cc

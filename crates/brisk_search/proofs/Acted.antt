@@ -1,6 +1,6 @@
 -- What comes of a thread's turn that stays: what is told of it holds, and a compound head has a try.
 use Rattle.std.proofs.Common.{◌≡◌, ℕ, zero, suc, Bool, true, false, List, [], ◌∷◌, Option, Some, None, refl, sym, ap, ◌∙◌, subst, true≢false}
-use Rattle.std.specs.Prelude.{map, ◌||◌, Result, Ok, Err, ◌&&◌, nat_lt, if◌then◌else◌, is_some, filter, cond}
+use Rattle.std.specs.Prelude.{map, ◌||◌, Ok, Err, ◌&&◌, nat_lt, if◌then◌else◌, is_some, filter, cond}
 use Rattle.brisk_values.specs.declared.value.Value.{Value}
 use Rattle.brisk_values.specs.declared.value.Value.TheVariants as value
 use Rattle.brisk_values.specs.Names.{Name, same_name}
@@ -17,7 +17,7 @@ use Rattle.brisk_state.specs.declared.thread.Mode.TheVariants.{One, At, Each}
 use Rattle.brisk_state.specs.declared.thread.Thread.{Thread}
 use Rattle.brisk_state.specs.Symbolic.{Symbolic, thread_named, active_code, is_active, code_at}
 use Rattle.brisk_basic.specs.declared.rule.RuleFault.{RuleFault}
-use Rattle.brisk_basic.specs.Basic.{Applied, apply, at_thread, known, decided}
+use Rattle.brisk_basic.specs.Basic.{Applied, at_thread, known, decided}
 use Rattle.brisk_basic.specs.Outcomes.{when, and_then}
 use Rattle.brisk_derivation.specs.declared.fault.SideFault.TheVariants as side
 use Rattle.brisk_derivation.specs.declared.steps.BasicStep.{BasicStep}

@@ -1,6 +1,6 @@
 -- Where no code has a `while`, some number of rules is enough.
 use Rattle.std.proofs.Common.{◌≡◌, ℕ, zero, suc, ◌+◌, ◌<◌, Bool, true, false, List, [], Option, Some, None, refl, sym, ap, subst, true≢false, arith}
-use Rattle.std.specs.Prelude.{◌≢◌, Result, Ok, Err, if◌then◌else◌}
+use Rattle.std.specs.Prelude.{◌≢◌, Ok, Err, if◌then◌else◌}
 use Rattle.std.proofs.lemmas.Bool.{lt-ltb}
 use Rattle.brisk_values.specs.Names.{Name}
 use Rattle.brisk_syntax.specs.WellTyped.{IsProgramWellTyped}
@@ -15,7 +15,7 @@ use Rattle.brisk_derivation.specs.Steps.{Step, Branch, Steps}
 use Rattle.brisk_rules.specs.declared.why.Why.{Why}
 use Rattle.brisk_rules.specs.declared.why.Why.TheVariants.{Rule as BasicFault, Side}
 use Rattle.brisk_rules.specs.Derives.{apply_quietly, rule_of}
-use Rattle.brisk_rules.specs.Rules.{Outcome, Entered, around, Parted, around_sides, close, enter_branch, join}
+use Rattle.brisk_rules.specs.Rules.{Outcome, Entered, around, Parted, close, enter_branch, join}
 use Rattle.brisk_rules.specs.Following.{Follow, nothing_follows}
 use Rattle.brisk_search.specs.Turns.{RulesLeft, Failures, Turn, Goes, Stays, Attempt, stay, where_it_stays, ◌otherwise◌, due}
 use Rattle.brisk_search.specs.Turns as turn

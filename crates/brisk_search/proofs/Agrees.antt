@@ -1,6 +1,6 @@
 -- Where no code has a `while`, all comes out the same with rules that are counted as without, unless they were spent.
 use Rattle.std.proofs.Common.{◌≡◌, ℕ, zero, suc, ◌+◌, ◌<◌, Bool, true, false, List, [], Option, Some, None, refl, sym, ap, subst, arith}
-use Rattle.std.specs.Prelude.{◌≢◌, Result, Ok, Err, if◌then◌else◌}
+use Rattle.std.specs.Prelude.{◌≢◌, Ok, Err, if◌then◌else◌}
 use Rattle.std.proofs.lemmas.Bool.{lt-ltb}
 use Rattle.brisk_values.specs.Names.{Name}
 use Rattle.brisk_syntax.specs.WellTyped.{IsProgramWellTyped}

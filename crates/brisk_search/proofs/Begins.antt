@@ -12,13 +12,11 @@ use Rattle.brisk_syntax.specs.Substitution.{who_with, code_with}
 use Rattle.brisk_syntax.specs.Syntax.{Expression, RecvAny, While, For, Repeat, Code, done, ◌⨾◌, ◌then◌}
 use Rattle.brisk_syntax.specs.Typing.{is_among}
 use Rattle.brisk_async.specs.Laws.{AnyReceive}
-use Rattle.brisk_seq.specs.Items.{Item, Items}
 use Rattle.brisk_facts.specs.Facts.{Facts, fact, facts_where, joined}
 use Rattle.brisk_facts.specs.Learning.{learn}
 use Rattle.brisk_state.specs.declared.thread.Mode.TheVariants.{At, Each}
 use Rattle.brisk_state.specs.declared.thread.Thread.{Thread}
 use Rattle.brisk_state.specs.Symbolic.{Symbolic, thread_named, with_code, with_mode}
-use Rattle.brisk_derivation.specs.declared.fault.SideFault.{SideFault}
 use Rattle.brisk_derivation.specs.declared.steps.Fact.{Fact}
 use Rattle.brisk_derivation.specs.declared.fault.SideFault.TheVariants.{MayBeEmpty}
 use Rattle.brisk_basic.specs.declared.rule.RuleFault.TheVariants.{WrongHead}

@@ -1,6 +1,6 @@
 -- The rules that are left fall with each step; so a drive has enough rounds where rules are counted.
 use Rattle.std.proofs.Common.{◌≡◌, ℕ, zero, suc, ◌≤◌, ◌<◌, Bool, true, false, List, [], Option, Some, None, refl, arith}
-use Rattle.std.specs.Prelude.{Result, Ok, Err, if◌then◌else◌}
+use Rattle.std.specs.Prelude.{Ok, Err, if◌then◌else◌}
 use Rattle.brisk_values.specs.Names.{Name}
 use Rattle.brisk_syntax.specs.declared.program.Program.{Program}
 use Rattle.brisk_seq.specs.Items.{Items, nothing, ◌⨟◌}
@@ -13,7 +13,7 @@ use Rattle.brisk_rules.specs.declared.why.Why.{Why}
 use Rattle.brisk_rules.specs.declared.why.Why.TheVariants.{Rule as BasicFault, Side}
 use Rattle.brisk_rules.specs.Derives.{apply_quietly, rule_of, items_in}
 use Rattle.brisk_rules.specs.Rules.{Outcome, Entered, around, Parted, around_sides, close, enter_branch, join}
-use Rattle.brisk_rules.specs.Following.{Follow, nothing_follows}
+use Rattle.brisk_rules.specs.Following.{Follow}
 use Rattle.brisk_search.specs.Turns.{RulesLeft, Failures, Turn, Goes, Stays, Attempt, stay, where_it_stays, ◌otherwise◌, due}
 use Rattle.brisk_search.specs.Turns as turn
 use Rattle.brisk_search.specs.Drives.{Drive, Way, Driven, Reached, Stuck, Driver, premise_of}

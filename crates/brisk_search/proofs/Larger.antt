@@ -1,6 +1,6 @@
 -- With more rules left all comes out the same, and as many more are left after it, unless they were spent.
 use Rattle.std.proofs.Common.{◌≡◌, ℕ, zero, suc, ◌+◌, ◌<◌, Bool, true, false, List, [], Option, Some, None, refl, sym, ap, subst, arith}
-use Rattle.std.specs.Prelude.{◌≢◌, Result, Ok, Err, if◌then◌else◌}
+use Rattle.std.specs.Prelude.{◌≢◌, Ok, Err, if◌then◌else◌}
 use Rattle.brisk_values.specs.Names.{Name}
 use Rattle.brisk_syntax.specs.declared.program.Program.{Program}
 use Rattle.brisk_seq.specs.Items.{Items, nothing, ◌⨟◌}

@@ -26,6 +26,7 @@ use Rattle.brisk_search.specs.Tries.{touched_in, places, is_known, is_dropped, l
 use Rattle.brisk_search.proofs.Begins.{Begins, DropsSpare, known_sorted}
 use Rattle.brisk_search.proofs.Sorted.{Sorted, sorted_where, all_found, found_passed}
 use Rattle.brisk_search.proofs.Spares.{Spares, Spared}
+use Rattle.std.proofs.lemmas.Bool.{and_right}
 
 -- what doesn't pass a test isn't among what does
 filtered : (test : Fact → Bool) (u x : Name) (qs : List Fact) → test record { at = u; variable = x } ≡ false → list_any (λ d. same_name d.at u && same_name d.variable x) (filter test qs) ≡ false
@@ -91,11 +92,7 @@ with_lost_spares P S drops r b sorted d E g u x s =
     filtered (λ q. is_dropped drops q || is_known (lost r E) q) u x (places P.roles) (λ i. d u x s i || none_lost S drops r b sorted E g u x s i)
 
 pub at_risk_spares : (P : Program) (S : Symbolic) → DropsSpare S (at_risk P S)
-at_risk_spares P S u x s = filtered (λ q. is_known S.facts q && is_among (touched_in (stands_at S q.at)) q.variable) u x (places P.roles) (and_false (is_known S.facts record { at = u; variable = x }) (is_among (touched_in (stands_at S u)) x) s)
-  where
-    and_false : (a b : Bool) → b ≡ false → (a && b) ≡ false
-    and_false true b e = e
-    and_false false b e = refl
+at_risk_spares P S u x s = filtered (λ q. is_known S.facts q && is_among (touched_in (stands_at S q.at)) q.variable) u x (places P.roles) (and_right (is_known S.facts record { at = u; variable = x }) (is_among (touched_in (stands_at S u)) x) s)
 
 -- what codes touch is declared, and facts stand in order
 pub record Fit (P : Program) (S : Symbolic) : Type 0 where

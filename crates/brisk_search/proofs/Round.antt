@@ -32,6 +32,7 @@ use Rattle.brisk_search.proofs.Pushing.{WhereStays, Pushes}
 use Rattle.brisk_search.proofs.Pushing as push
 use Rattle.brisk_search.proofs.Acted.{then_on, weaker, stands, AllHold, TellsAt, LastBy, Acted, Ready, rule_tells, last_is, nine_tell, acting_tells}
 use Rattle.brisk_search.proofs.Still.{NoReceive, acting_still, actor_there, own_turn, receiving_still}
+use Rattle.std.proofs.lemmas.Bool.{not-true}
 
 -- two things hold where a turn stays
 both_stay : (A B : Failures → Type 0) (t : Turn) → WhereStays A t → WhereStays B t → WhereStays (λ gs. A gs × B gs) t
@@ -223,15 +224,11 @@ module _ (P : Program) (deep : ℕ) (F : Follow) where
     one_set : (s : Name) → rests s ≡ true → (fs : Failures) (left : RulesLeft) → Good S fs → WhereStays (λ gs. (Good S gs × Grows fs gs) × (is_some (last_try gs s) ≡ true)) (without_owners around S s fs left)
     one_set s e fs left g =
         let (m, c) = both_true (not (is_movable S s)) (has_code S s) e in
-        let quiet = not_movable (is_movable S s) m in
+        let quiet = not-true (is_movable S s) m in
         weaker (Pushes P deep F S (for_rule F S s s []) fs) (λ gs. (Good S gs × Grows fs gs) × (is_some (last_try gs s) ≡ true)) (without_owners around S s fs left)
         (λ gs p. ((good_set S s quiet fs gs p g, (rule_tells P deep F S (for_rule F S s s []) fs gs p).grows), pushed gs p (each_rests s quiet c)))
         (nine_tell P deep F below fits S ready (for_rule F S s s []) (is_for_rule s s [] c) fs left)
       where
-        not_movable : (b : Bool) → not b ≡ true → b ≡ false
-        not_movable true e = absurd (true≢false (sym e))
-        not_movable false e = refl
-
         pushed : (gs : Failures) → Pushes P deep F S (for_rule F S s s []) fs gs → mode_of (thread_named S.threads s) ≡ Some Each → is_some (last_try gs s) ≡ true
         pushed _ (push.pushes drops a end h) each = rw (name_laws.refl s) refl
         pushed _ (push.refuses drops why h) each = absurd (never_refused s each drops why h)

@@ -1,6 +1,6 @@
 -- A search keeps each fact on what its threads' codes spare.
 use Rattle.std.proofs.Common.{◌≡◌, ℕ, zero, suc, Bool, true, false, List, [], ◌∷◌, ◌++◌, map, Option, Some, None, cond, refl, sym, ap, ◌∙◌, subst}
-use Rattle.std.specs.Prelude.{Result, Ok, Err, ◌&&◌, not, if◌then◌else◌, nat_le}
+use Rattle.std.specs.Prelude.{Ok, Err, ◌&&◌, not, if◌then◌else◌, nat_le}
 use Rattle.std.specs.FinMap.{find}
 use Rattle.std.proofs.lemmas.Option.{same_Some}
 use Rattle.brisk_values.specs.declared.value.Value.{Value}
@@ -12,7 +12,6 @@ use Rattle.brisk_seq.specs.Items.{Items, nothing, ◌⨟◌}
 use Rattle.brisk_facts.specs.Facts.{place_cmp, fact, agree}
 use Rattle.brisk_facts.specs.Learning.{folded}
 use Rattle.brisk_state.specs.Symbolic.{Symbolic, key, code_at, numbers_at, is_in_use, same_but_facts}
-use Rattle.brisk_basic.specs.declared.rule.RuleFault.{RuleFault}
 use Rattle.brisk_basic.specs.declared.rule.RuleFault.TheVariants.{BoxInUse}
 use Rattle.brisk_basic.specs.declared.rule.Basic.{Basic}
 use Rattle.brisk_basic.specs.declared.rule.Basic.TheVariants as rule

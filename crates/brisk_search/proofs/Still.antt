@@ -1,6 +1,6 @@
 -- What comes of a thread's turn that stays: no basic rule moves the thread.
 use Rattle.std.proofs.Common.{◌≡◌, ℕ, zero, suc, Bool, true, false, List, [], ◌∷◌, Option, Some, None, length, refl, sym, ap, ◌∙◌, subst, true≢false}
-use Rattle.std.specs.Prelude.{Result, Ok, Err, ◌||◌, if◌then◌else◌, is_ok}
+use Rattle.std.specs.Prelude.{Ok, Err, ◌||◌, if◌then◌else◌, is_ok}
 use Rattle.std.specs.List.{list_any}
 use Rattle.brisk_values.specs.declared.value.Value.TheVariants as value
 use Rattle.brisk_values.specs.Names.{Name, same_name}
@@ -17,8 +17,7 @@ use Rattle.brisk_state.specs.declared.thread.Mode.{Mode}
 use Rattle.brisk_state.specs.declared.thread.Mode.TheVariants.{One, At, Each}
 use Rattle.brisk_state.specs.declared.thread.Thread.{Thread}
 use Rattle.brisk_state.specs.Symbolic.{Symbolic, thread_named, active_code, code_at}
-use Rattle.brisk_basic.specs.declared.rule.RuleFault.{RuleFault}
-use Rattle.brisk_basic.specs.Basic.{Applied, apply}
+use Rattle.brisk_basic.specs.Basic.{Applied}
 use Rattle.brisk_derivation.specs.declared.steps.BasicStep.{BasicStep}
 use Rattle.brisk_derivation.specs.declared.steps.BasicStep.TheVariants as basic
 use Rattle.brisk_rules.specs.Derives.{apply_quietly, rule_of}

@@ -24,6 +24,7 @@ use Rattle.brisk_search.specs.Drives as drive
 use Rattle.brisk_search.specs.Passes.{last_try, with_try, last_tries}
 use Rattle.brisk_search.proofs.Acted.{AllHold, LastBy, Ready, among_those, among_movable}
 use Rattle.brisk_search.proofs.Round.{Ended}
+use Rattle.std.proofs.lemmas.Bool.{not-false, not-true}
 
 -- among several lists of names
 among_left : (ts us : List Name) (u : Name) → is_among ts u ≡ true → is_among (ts ++ us) u ≡ true
@@ -84,14 +85,6 @@ not_any f (t ∷ ts) u e a = go (f t) refl e (same_name u t) refl a (not_any f t
     go true p e same q a h = absurd (true≢false e)
     go false p e true q a h = ap f (exact_name u t q) ∙ p
     go false p e false q a h = h e a
-
-not_true : (b : Bool) → not b ≡ true → b ≡ false
-not_true true e = absurd (true≢false (sym e))
-not_true false e = refl
-
-pub not_false : (b : Bool) → not b ≡ false → b ≡ true
-not_false true e = refl
-not_false false e = absurd (true≢false e)
 
 -- a thread that rules move is among these or the others
 in_all : (E : Symbolic) (these : List Name) (u : Name) → is_among (movable E) u ≡ true → is_among (these ++ others these E) u ≡ true
@@ -164,7 +157,7 @@ module _ (P : Program) (deep : ℕ) (F : Follow) where
     told = λ u a m. let c = e.threads u a m in λ i. not (c.still i) && tried u m (is_compound S (stands_at S u)) refl c.tried i;
     sets = λ s. all_among (λ s. has_try (is_for_set s) (last_tries fs S.threads)) (resting S) (λ u a.
         let (n, r) = among_passed (λ s. not (is_movable S s) && has_code S s) u (thread_names S) a in
-        has_last (is_for_set u) fs u (e.good.sets u (not_true (is_movable S u) (both_true (not (is_movable S u)) (has_code S u) r).0) (e.sets s u a)) S.threads n);
+        has_last (is_for_set u) fs u (e.good.sets u (not-true (is_movable S u) (both_true (not (is_movable S u)) (has_code S u) r).0) (e.sets s u a)) S.threads n);
     hold = all_last_hold S fs e.good.hold S.threads;
   }
     where
@@ -178,7 +171,7 @@ module _ (P : Program) (deep : ℕ) (F : Follow) where
     told_all h = λ i. all_among (is_told P F E ts) (movable E) h i && true
 
     told_still : (u : Name) → is_told P F E ts u ≡ true → moves P F E u ≡ false
-    told_still u e = not_true (moves P F E u) (both_true (not (moves P F E u)) (not (is_compound E (stands_at E u)) || has_try (is_for u (stands_at E u)) ts) e).0
+    told_still u e = not-true (moves P F E u) (both_true (not (moves P F E u)) (not (is_compound E (stands_at E u)) || has_try (is_for u (stands_at E u)) ts) e).0
 
     -- the threads in turn in a premise, by its owners
     abbrev turns : Entered → List Name → List Name
@@ -189,7 +182,7 @@ module _ (P : Program) (deep : ℕ) (F : Follow) where
     owner_open r (o ∷ os) u e m = ap (λ b. is_among ((o ∷ os) ++ (if b then others (o ∷ os) E else candidates_of r (o ∷ os) E)) u) e ∙ in_all E (o ∷ os) u m
 
     not_at_code : (u : Name) → has_code E u ≡ false → moves P F E u ≡ false
-    not_at_code u e = ap (λ c. list_any (applies P F E) (basic_rules E u c)) (exact_code (stands_at E u) done (not_false (same_code (stands_at E u) done) e))
+    not_at_code u e = ap (λ c. list_any (applies P F E) (basic_rules E u c)) (exact_code (stands_at E u) done (not-false (same_code (stands_at E u) done) e))
 
     -- a candidate is told, or it is an owner at its end
     candidate_told : (r : Entered) (owners : List Owner) → list_any (has_code E) (or_others (map (λ o. o.name) owners) (focus_of (looks r.kind))) ≡ false →

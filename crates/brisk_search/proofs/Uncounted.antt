@@ -1,14 +1,13 @@
 -- Where no code has a `while` and rules aren't counted, a drive has enough rounds, and no search is spent.
 use Rattle.std.proofs.Common.{◌≡◌, ℕ, zero, suc, ◌+◌, ◌≤◌, ◌<◌, Bool, true, false, List, [], ◌∷◌, Option, Some, None, refl, sym, ap, ◌∙◌, subst, true≢false, arith}
-use Rattle.std.specs.Prelude.{Result, Ok, Err, ◌||◌, not, is_none, fold, sum_by, if◌then◌else◌}
-use Rattle.std.proofs.lemmas.Bool.{lt-ltb}
+use Rattle.std.specs.Prelude.{Ok, Err, ◌||◌, not, is_none, fold, sum_by, if◌then◌else◌}
+use Rattle.std.proofs.lemmas.Bool.{lt-ltb, not-false}
 use Rattle.brisk_values.specs.Names.{Name, same_name}
 use Rattle.brisk_values.proofs.Changes.{both_true, exact_name}
 use Rattle.brisk_syntax.specs.declared.program.Program.{Program}
 use Rattle.brisk_syntax.specs.Counts.{statements}
 use Rattle.brisk_syntax.specs.Syntax.{Code, done, ◌⨾◌}
 use Rattle.brisk_syntax.specs.Typing.{is_among}
-use Rattle.brisk_seq.specs.Items as item
 use Rattle.brisk_seq.specs.Items.{Items, nothing, ◌⨟◌}
 use Rattle.brisk_state.specs.declared.thread.Mode.TheVariants.{At, Each}
 use Rattle.brisk_state.specs.declared.thread.Thread.{Thread}
@@ -25,7 +24,7 @@ use Rattle.brisk_rules.specs.declared.why.Why.{Why}
 use Rattle.brisk_rules.specs.declared.why.Why.TheVariants.{Rule as BasicFault, Side}
 use Rattle.brisk_rules.specs.Derives.{apply_quietly, rule_of}
 use Rattle.brisk_rules.specs.Heads.{while_of}
-use Rattle.brisk_rules.specs.Rules.{Outcome, For, Entered, around, Parted, around_sides, mode_of, code_in, without_drops, close, enter_for, enter_branch, join}
+use Rattle.brisk_rules.specs.Rules.{Outcome, For, Entered, around, Parted, mode_of, code_in, without_drops, close, enter_for, enter_branch, join}
 use Rattle.brisk_sound.proofs.Applied.{Applies, assigns, fills, takes, passes, knows_if, knows_while}
 use Rattle.brisk_sound.proofs.Closing.{closed}
 use Rattle.brisk_sound.proofs.Derives.{Takes_step, by_rule, by_branch, by_while, by_repeat, by_for, by_gather, by_pick}
@@ -38,7 +37,7 @@ use Rattle.brisk_rules.proofs.Readings.{reading, is_active}
 use Rattle.brisk_sound.proofs.Received.{gather_opens, pick_opens}
 use Rattle.brisk_rules.proofs.Threads.{names, modes, codes, codes_with_mode}
 use Rattle.brisk_rules.specs.Standing.{fault_aside, has_code, stands_at}
-use Rattle.brisk_rules.specs.Following.{Follow, nothing_follows}
+use Rattle.brisk_rules.specs.Following.{Follow}
 use Rattle.brisk_search.specs.Turns.{RulesLeft, Failures, Turn, Goes, Stays, Attempt, stay, where_it_stays, ◌otherwise◌, due}
 use Rattle.brisk_search.specs.Turns as turn
 use Rattle.brisk_search.specs.Drives.{Drive, Way, Driven, Reached, Stuck, Driver, premise_of}
@@ -131,17 +130,9 @@ module _ (P : Program) where
   tries_go_on S rule is below b (suc n) drops =
       once_goes_on S rule is below b (λ r E. tries P below S rule n (with_lost P r E drops)) (λ r E. tries_go_on S rule is below b n (with_lost P r E drops)) drops
 
-  not_false : (b : Bool) → not b ≡ true → b ≡ false
-  not_false true e = absurd (true≢false (sym e))
-  not_false false e = refl
-
   or_false : (b : Bool) → not (b || false) ≡ true → b ≡ false
   or_false true e = absurd (true≢false (sym e))
   or_false false e = refl
-
-  not_true : (b : Bool) → not b ≡ false → b ≡ true
-  not_true true e = refl
-  not_true false e = absurd (true≢false e)
 
   -- a `for` without owners
   abbrev idle : Symbolic → Name → List Fact → Entered
@@ -156,7 +147,7 @@ module _ (P : Program) where
   idle_ends : (S : Symbolic) (s : Name) (drops : List Fact) (E S' : Symbolic) → (premise_of (idle S s drops)).goal E ≡ true → close (idle S s drops) E ≡ Ok S' → stands_at S' s ≡ done
   idle_ends S s drops E S' goal c =
       let g = both_true (not (has_code E s || false)) (is_none (fault_aside (idle S s drops) E)) goal in
-      let same = not_true (same_code (stands_at E s) done) (or_false (has_code E s) g.0) in
+      let same = not-false (same_code (stands_at E s) done) (or_false (has_code E s) g.0) in
       let k = closed (idle S s drops) E S' c in
       ap (λ (z : Symbolic). stands_at z s) (sym k.next) ∙ ap (λ (f : Name → Code). f s) (codes_with_mode s Each E.threads) ∙ exact_code (stands_at E s) done same
 

@@ -50,10 +50,14 @@ abbrev mutual
   touched_in done = []
   touched_in (s ⨾ c) = touched_by s ++ touched_in c
 
+-- each variable of a role, in declaration order
+abbrev pub places_of : RoleText → List Fact
+places_of r = map (λ d. record { at = r.name; variable = variable_of d }) r.decls
+
 -- each variable of each role, in role and declaration order
 abbrev pub places : List RoleText → List Fact
 places [] = []
-places (r ∷ rs) = map (λ d. record { at = r.name; variable = variable_of d }) r.decls ++ places rs
+places (r ∷ rs) = places_of r ++ places rs
 
 -- something is known of the variable
 abbrev pub is_known : Facts → Fact → Bool

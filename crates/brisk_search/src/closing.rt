@@ -1,170 +1,108 @@
-//! The premise of a rule that was entered, and what its close asks, facts aside.
+//! The premise of a rule that was entered, and who goes on in it where its owners are at their end.
+ghost use Rattle.std.specs.Prelude.{◌≡◌};
+ghost use Rattle.std.specs.List.{list_any};
+ghost use Rattle.brisk_loops.specs.CloseSeen.{kind_of};
+ghost use Rattle.brisk_rules.specs.Rules.{Entered, looks};
+ghost use Rattle.brisk_rules.specs.Standing.{fault_aside, focus_of as focus_in, has_code as has_code_in, is_candidate, is_moved, is_not_quiet, stands_at};
+ghost use Rattle.brisk_state.specs.Same.{same_code as same_tree};
+ghost use Rattle.brisk_search.specs.Drives.{must_end};
+ghost use Rattle.brisk_search.specs.Views.{IsBefore, IsPremiseOf, StandsLike, focus_names, seen};
+ghost use Rattle.brisk_loops.specs.LeaveSeen.{Closes};
+
 use crate::standing::has_code;
-use brisk_derivation::{Drops, SideFault};
-use brisk_loops::Walk;
-use brisk_quiet::{Stillness, quiet};
-use brisk_state::{State, Thread};
+use brisk_derivation::Drops;
+use brisk_loops::{Closing, Loop, Owner, Walk, is_owner, looks_at};
+use brisk_state::State;
 use brisk_syntax::same_code;
-use brisk_values::{Name, NoMemory};
-use std::alloc::Global;
+use brisk_values::Name;
 
-/// What a close looks at.
-#[derive(Clone, Copy)]
-pub(crate) enum Scope {
-    Everything,
-    /// All but the set in focus.
-    Outside(Name),
-    /// The set in focus alone.
-    Inside(Name),
-}
-
-impl Scope {
-    /// The set in focus, where the rule has one.
-    pub(crate) fn focus(&self) -> Option<Name> {
-        match self {
-            Scope::Everything => None,
-            Scope::Outside(set) | Scope::Inside(set) => Some(*set),
-        }
-    }
-
-    /// The close looks at this role.
-    pub(crate) fn looks_at(&self, role: Name) -> bool {
-        match self {
-            Scope::Everything => true,
-            Scope::Outside(set) => *set != role,
-            Scope::Inside(set) => *set == role,
-        }
-    }
-}
-
-/// A premise. What stood at its start is read off the state before the rule, which the walk keeps: the rule changed only
-/// the codes of its owners there, and the mode of the set in focus, and no message.
+/// The premise of a rule: how many rules stand around its rule; what its close needs; and the facts that were dropped at its
+/// entry.
 #[derive(Drop)]
 pub(crate) struct Premise {
-    /// How many rules stand around its rule.
-    pub(crate) depth: usize,
-    pub(crate) scope: Scope,
-    /// The channel of a gather.
-    pub(crate) gathers: Option<Name>,
-    pub(crate) owners: Vec<Name>,
+    pub(crate) around: usize,
+    pub(crate) closing: Closing,
     pub(crate) drops: Drops,
 }
 
+/// The set in focus, where a rule has one.
+pub(crate) fn focus_of(kind: &Loop) -> Option<Name>
+    ensures { focus_names result ≡ focus_in (looks (kind_of kind.now)) }
+{
+    match kind {
+        Loop::While(_, _) | Loop::Repeat(_) => None,
+        Loop::For(set) | Loop::Gather(_, set, _) | Loop::Pick(set) => Some(*set),
+    }
+}
+
+// One of the owners has code.
+fn some_has_code(state: &State, owners: &[Owner]) -> bool
+    ensures { result ≡ list_any (λ o. has_code_in state.now o.name) owners.now }
+{
+    for owner in owners {
+        if has_code(state, owner.name) {
+            return true;
+        }
+    }
+    false
+}
+
 impl Premise {
+    /// One of its owners has code.
+    pub(crate) fn is_at_work(&self, state: &State) -> bool
+        ensures { result ≡ list_any (λ o. has_code_in state.now o.name) self.now.closing.owners.items }
+    {
+        some_has_code(state, &self.closing.owners)
+    }
+
     /// Code has to come to its end yet: that of an owner, or where there is none that of the member in focus.
-    pub(crate) fn has_to_end(&self, state: &State) -> bool {
-        if self.owners.is_empty() {
-            match self.scope.focus() {
-                None => false,
-                Some(set) => has_code(state, set),
-            }
-        } else {
-            self.owners.iter().any(|t| has_code(state, *t))
+    pub(crate) fn has_to_end(&self, state: &State) -> bool
+        ensures { result ≡ list_any (has_code_in state.now) (must_end (seen self.now.closing)) }
+    {
+        if !self.closing.owners.is_empty() {
+            return self.is_at_work(state);
         }
-    }
-
-    // The close looks at the code of this thread: owners are exempt.
-    fn looks_at_code(&self, name: Name) -> bool {
-        self.scope.looks_at(name) && !self.owners.contains(&name)
+        match focus_of(&self.closing.kind) {
+            None => false,
+            Some(set) => has_code(state, set),
+        }
     }
 }
 
-/// The first test of the close that fails, facts aside.
-pub(crate) fn fault_aside(
-    alloc: Global,
+/// The thread goes on where all owners are at their end: a message pends for it that didn't pend before the rule; or it has
+/// moved where the close looks at it; or it is in focus and may still send.
+pub(crate) fn goes_on(
     walk: &Walk,
     premise: &Premise,
-) -> Result<Option<SideFault>, NoMemory> {
+    before: &State,
+    may_send: bool,
+    name: Name,
+) -> bool
+    ensures { (r : Entered) → IsPremiseOf r premise.now walk.now.entered → may_send ≡ is_not_quiet (fault_aside r walk.now.state) → IsBefore before.now premise.now walk.now.entered → result ≡ is_candidate r walk.now.state name }
+{
     let state = walk.state();
-    let Some(before) = walk.before(premise.depth) else {
-        return Ok(None);
-    };
-    if let Some(owner) = premise.owners.iter().find(|t| has_code(state, **t)) {
-        return Ok(Some(SideFault::OwnerUnfinished(*owner)));
+    if state.has_new_for(before, name) || has_moved(premise, before, state, name) {
+        return true;
     }
-    if let Some(name) = not_restored(premise, before, state) {
-        return Ok(Some(SideFault::NotRestored(name)));
-    }
-    if !has_same_mail(premise, before, state)? {
-        return Ok(Some(SideFault::MailChanged));
-    }
-    match (
-        premise.gathers,
-        premise.scope.focus(),
-        premise.owners.first(),
-    ) {
-        (Some(channel), Some(set), Some(owner)) => {
-            gather_fault(alloc, state, *owner, set, channel)
-        }
-        _ => Ok(None),
-    }
+    may_send && focus_of(&premise.closing.kind) == Some(name)
 }
 
-// The first thread whose code differs, where the close looks at it.
-fn not_restored(premise: &Premise, before: &State, state: &State) -> Option<Name> {
-    before
-        .threads()
-        .iter()
-        .zip(state.threads())
-        .find(|(t, u)| premise.looks_at_code(t.name) && !same_code(&t.code, &u.code))
-        .map(|(t, _)| t.name)
+// The thread isn't where it was before, and the close looks at it.
+fn has_moved(premise: &Premise, before: &State, state: &State, name: Name) -> bool
+    ensures { (r : Entered) → Closes premise.now.closing r → StandsLike r before.now → result ≡ is_moved r state.now name }
+{
+    looks_at(&premise.closing.kind, name)
+        && !is_owner(&premise.closing.owners, name)
+        && !is_where_it_was(before, state, name)
 }
 
-// The same messages pend, where the close looks at them.
-fn has_same_mail(premise: &Premise, before: &State, state: &State) -> Result<bool, NoMemory> {
-    match premise.scope {
-        Scope::Everything => Ok(before.same_mail(state)),
-        Scope::Outside(set) => before.same_mail_without(state, set),
-        Scope::Inside(set) => before.same_mail_with(state, set),
-    }
-}
-
-// What the close of a gather asks of the member in focus.
-fn gather_fault(
-    alloc: Global,
-    state: &State,
-    owner: Name,
-    set: Name,
-    channel: Name,
-) -> Result<Option<SideFault>, NoMemory> {
-    if state.count(set, owner, channel) != 0 {
-        return Ok(Some(SideFault::MailLeft));
-    }
-    let Some(code) = state.code_of(set) else {
-        return Ok(None);
-    };
-    match quiet(alloc, code, set, owner, channel, state)? {
-        Stillness::Sends => Ok(Some(SideFault::NotQuiet)),
-        _ => Ok(None),
-    }
-}
-
-/// A message pends for the thread that didn't at the premise's start, or the thread has moved where the close looks at it.
-pub(crate) fn is_new_for(
-    walk: &Walk,
-    premise: &Premise,
-    thread: &Thread,
-) -> Result<bool, NoMemory> {
-    let Some(before) = walk.before(premise.depth) else {
-        return Ok(false);
-    };
-    if premise.looks_at_code(thread.name) && has_moved(before, thread) {
-        return Ok(true);
-    }
-    let old = before.pending()?;
-    let new = walk.state().pending()?;
-    // what is new stands last
-    Ok(
-        new.iter()
-            .rev()
-            .any(|m| m.to == thread.name && !old.contains(m)),
-    )
-}
-
-// The thread's code isn't what it was.
-fn has_moved(before: &State, thread: &Thread) -> bool {
-    match before.code_of(thread.name) {
-        None => thread.code.first().is_some(),
-        Some(code) => !same_code(code, &thread.code),
+// The thread has the same code in both states.
+fn is_where_it_was(before: &State, state: &State, name: Name) -> bool
+    ensures { result ≡ same_tree (stands_at before.now name) (stands_at state.now name) }
+{
+    match (before.code_of(name), state.code_of(name)) {
+        (Some(old), Some(new)) => same_code(old, new),
+        (Some(code), None) | (None, Some(code)) => code.first().is_none(),
+        (None, None) => true,
     }
 }

@@ -1,13 +1,14 @@
 //! The compound rules with one premise that are tried at a thread's head.
-ghost use Rattle.std.specs.Prelude.{◌≡◌, IfOk};
+ghost use Rattle.std.specs.Prelude.{◌≡◌, ◌∷◌, [], map, IfOk};
 ghost use Rattle.brisk_derivation.specs.Seen.{step_of};
 ghost use Rattle.brisk_derivation.specs.Steps.{Branch, no_steps};
-ghost use Rattle.brisk_search.specs.Led.{IsLoop, with_premise};
+ghost use Rattle.brisk_rules.specs.Following.{Follow};
+ghost use Rattle.brisk_state.specs.Symbolic.{Symbolic};
+ghost use Rattle.brisk_syntax.specs.declared.program.Program.{Program};
+ghost use Rattle.brisk_search.specs.Views.{next_rules, rule_seen, with_premise};
 
-use crate::closing::{Premise, Scope};
-use crate::standing::{Head, any_at, threads_at};
+use crate::standing::{Head, threads_at};
 use brisk_derivation::{Drops, Step, Steps};
-use brisk_loops::Walk;
 use brisk_state::State;
 use brisk_syntax::Names;
 use brisk_values::{Name, NoMemory};
@@ -38,10 +39,12 @@ pub(crate) fn rules_of(
     state: &State,
     name: Name,
     head: &Head,
-) -> Result<Vec<Compound>, NoMemory> {
+) -> Result<Vec<Compound>, NoMemory>
+    ensures { (P : Program) (F : Follow) → IfOk result (λ v. map (rule_seen P F state.now) v.items ≡ next_rules P F state.now name head.now) }
+{
     let mut rules = Vec::new(alloc);
     match head {
-        Head::While(_) => rules.push(Compound::at(alloc, name, Kind::While)?)?,
+        Head::While(false) => rules.push(Compound::at(alloc, name, Kind::While)?)?,
         Head::Repeat => {
             rules.push(Compound::at(alloc, name, Kind::Gather)?)?;
             rules.push(Compound::at(alloc, name, Kind::Repeat)?)?;
@@ -70,7 +73,9 @@ pub(crate) fn rules_of(
 
 impl Compound {
     // A rule whose owner is the thread at whose head it is tried.
-    fn at(alloc: Global, name: Name, kind: Kind) -> Result<Compound, NoMemory> {
+    fn at(alloc: Global, name: Name, kind: Kind) -> Result<Compound, NoMemory>
+        ensures { IfOk result (λ c. (c.at ≡ name) × (c.kind ≡ kind) × (c.owners.items ≡ name ∷ [])) }
+    {
         Ok(Compound {
             at: name,
             kind,
@@ -78,43 +83,9 @@ impl Compound {
         })
     }
 
-    /// Its premise, where it is entered from here with these facts dropped.
-    pub(crate) fn premise(
-        &self,
-        alloc: Global,
-        walk: &Walk,
-        drops: Drops,
-    ) -> Result<Premise, NoMemory> {
-        Ok(Premise {
-            depth: walk.depth(),
-            scope: self.scope(walk.state()),
-            gathers: self.gathers(walk.state()),
-            owners: Vec::from_slice(alloc, &self.owners)?,
-            drops,
-        })
-    }
-
-    // What its close looks at.
-    fn scope(&self, state: &State) -> Scope {
-        match (self.kind, any_at(state, self.at)) {
-            (Kind::For(set), _) => Scope::Outside(set),
-            (Kind::Gather, Some((set, _))) => Scope::Outside(set),
-            (Kind::Pick, Some((set, _))) => Scope::Inside(set),
-            _ => Scope::Everything,
-        }
-    }
-
-    // The channel of a gather.
-    fn gathers(&self, state: &State) -> Option<Name> {
-        match (self.kind, any_at(state, self.at)) {
-            (Kind::Gather, Some((_, channel))) => Some(channel),
-            _ => None,
-        }
-    }
-
     /// Its step, without own steps yet.
     pub(crate) fn step(&self, alloc: Global, drops: &Drops) -> Result<Step, NoMemory>
-        ensures { IfOk result (λ s. IsLoop (step_of s)) }
+        ensures { (P : Program) (F : Follow) (S : Symbolic) → IfOk result (λ s. step_of s ≡ (rule_seen P F S self.now).step drops.now no_steps) }
     {
         let drops = Drops {
             items: Vec::from_slice(alloc, &drops.items)?,

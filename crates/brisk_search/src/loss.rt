@@ -1,104 +1,135 @@
 //! The facts that a try loses, and those that it may lose.
-ghost use Rattle.std.specs.Prelude.{◌≡◌};
+ghost use Rattle.std.specs.Prelude.{◌≡◌, ◌&&◌, ◌||◌, ◌++◌, filter, IfOk, OnOk};
 ghost use Rattle.brisk_syntax.specs.Expressions.{expression_of};
+ghost use Rattle.brisk_syntax.specs.Statements.{statement_of};
+ghost use Rattle.brisk_syntax.specs.Texts.{text_of};
 ghost use Rattle.brisk_syntax.specs.Typing.{is_among};
-ghost use Rattle.brisk_search.specs.Tries.{variables_of};
+ghost use Rattle.brisk_rules.specs.Rules.{Entered};
+ghost use Rattle.brisk_rules.specs.Standing.{stands_at};
+ghost use Rattle.brisk_search.specs.Tries.{at_risk, is_dropped, is_known, places_of, touched_by, touched_in, variables_of, with_lost};
+ghost use Rattle.brisk_search.specs.Views.{IsPremiseOf};
 
 use crate::closing::Premise;
-use crate::drive::Drive;
+use crate::standing::has_name;
 use brisk_derivation::{Drops, Fact};
+use brisk_facts::Facts;
 use brisk_loops::Walk;
 use brisk_state::State;
-use brisk_syntax::{Block, Code, Expr, Stmt};
+use brisk_syntax::{Block, Code, Expr, Role, Stmt};
 use brisk_values::{Name, NoMemory};
 use std::alloc::Global;
 
-/// The facts to drop in the next try, which are those of this one and those that it lost; none, where it lost none.
-pub(crate) fn lost_with(
-    alloc: Global,
-    walk: &Walk,
-    asked: &Drive,
-) -> Result<Option<Drops>, NoMemory> {
-    let Drive::Premise(premise) = asked else {
-        return Ok(None);
-    };
-    let Some(before) = walk.before(premise.depth) else {
-        return Ok(None);
-    };
-    let drops = &premise.drops;
-    let mut loses = false;
+/// The facts to drop in the next try: those of this one, and those that it lost.
+pub(crate) fn with_lost(alloc: Global, walk: &Walk, premise: &Premise) -> Result<Drops, NoMemory>
+    ensures { (r : Entered) → IsPremiseOf r premise.now walk.now.entered → IfOk result (λ d. d ≡ with_lost walk.now.program r walk.now.state premise.now.drops) }
+{
+    let lost = walk.lost(premise.around, &premise.closing)?;
     let mut items = Vec::new(alloc);
     for role in &walk.program().roles.items {
-        for decl in &role.decls.items {
-            let place = Fact {
-                at: role.name,
-                variable: decl.variable(),
-            };
-            if drops.items.contains(&place) {
-                items.push(place)?;
-            } else if is_lost(premise, before, walk.state(), &place) {
-                loses = true;
-                items.push(place)?;
-            }
-        }
-    }
-    Ok(if loses { Some(Drops { items }) } else { None })
-}
-
-// The close asks for what was known of the place, and it isn't known any more.
-fn is_lost(premise: &Premise, before: &State, state: &State, place: &Fact) -> bool {
-    if !premise.scope.looks_at(place.at) {
-        return false;
-    }
-    match before.facts().get(place.at, place.variable) {
-        None => false,
-        Some(value) => state.facts().get(place.at, place.variable) != Some(value),
-    }
-}
-
-/// The facts on variables that their thread's code assigns, receives into or has in a guard.
-pub(crate) fn at_risk(alloc: Global, walk: &Walk) -> Result<Drops, NoMemory> {
-    let state = walk.state();
-    let mut items = Vec::new(alloc);
-    for role in &walk.program().roles.items {
-        for decl in &role.decls.items {
-            let variable = decl.variable();
-            let known = state.facts().get(role.name, variable).is_some();
-            if known && is_touched_at(state, role.name, variable) {
-                items.push(Fact {
-                    at: role.name,
-                    variable,
-                })?;
-            }
-        }
+        add_lost(role, &premise.drops, &lost, &mut items)?;
     }
     Ok(Drops { items })
 }
 
-// The thread's code assigns the variable, receives into it or has it in a guard.
-fn is_touched_at(state: &State, name: Name, variable: Name) -> bool {
-    match state.code_of(name) {
-        None => false,
-        Some(code) => is_touched_by_code(code, variable),
+// Adds the role's variables that are dropped already, or of which a fact was lost.
+fn add_lost(role: &Role, drops: &Drops, lost: &Facts, items: &mut Vec<Fact>) -> Result<(), NoMemory>
+    ensures { OnOk result (items.new.items ≡ items.old.items ++ filter (λ q. is_dropped drops.now q || is_known lost.now q) (places_of (text_of role.now))) }
+{
+    for decl in &role.decls.items {
+        let place = Fact {
+            at: role.name,
+            variable: decl.variable(),
+        };
+        if is_lost(drops, lost, &place) {
+            items.push(place)?;
+        }
     }
+    Ok(())
 }
 
-fn is_touched_by_code(code: &Code, variable: Name) -> bool {
-    for place in 0..u64::MAX {
-        match code.at(place) {
-            None => return false,
-            Some(statement) => {
-                if is_touched_by(statement, variable) {
-                    return true;
-                }
-            }
+// The place is dropped already, or a fact of it was lost.
+fn is_lost(drops: &Drops, lost: &Facts, place: &Fact) -> bool
+    ensures { result ≡ (is_dropped drops.now place.now || is_known lost.now place.now) }
+{
+    is_dropped(drops, place) || lost.get(place.at, place.variable).is_some()
+}
+
+// The place is one of these.
+fn is_dropped(drops: &Drops, place: &Fact) -> bool
+    ensures { result ≡ is_dropped drops.now place.now }
+{
+    for drop in &drops.items {
+        if drop.at == place.at && drop.variable == place.variable {
+            return true;
         }
     }
     false
 }
 
+/// The facts on variables that their thread's code assigns, receives into or has in a guard.
+pub(crate) fn at_risk(alloc: Global, walk: &Walk) -> Result<Drops, NoMemory>
+    ensures { IfOk result (λ d. d ≡ at_risk walk.now.program walk.now.state) }
+{
+    let mut items = Vec::new(alloc);
+    for role in &walk.program().roles.items {
+        add_touched(role, walk.state(), &mut items)?;
+    }
+    Ok(Drops { items })
+}
+
+// Adds the role's variables of which something is known, and which its thread's code touches.
+fn add_touched(role: &Role, state: &State, items: &mut Vec<Fact>) -> Result<(), NoMemory>
+    ensures { OnOk result (items.new.items ≡ items.old.items ++ filter (λ q. is_known state.now.facts q && is_among (touched_in (stands_at state.now q.at)) q.variable) (places_of (text_of role.now))) }
+{
+    for decl in &role.decls.items {
+        let place = Fact {
+            at: role.name,
+            variable: decl.variable(),
+        };
+        if is_at_risk(state, &place)? {
+            items.push(place)?;
+        }
+    }
+    Ok(())
+}
+
+// Something is known of the place, and its thread's code touches it.
+fn is_at_risk(state: &State, place: &Fact) -> Result<bool, NoMemory>
+    ensures { IfOk result (λ b. b ≡ (is_known state.now.facts place.now && is_among (touched_in (stands_at state.now place.now.at)) place.now.variable)) }
+{
+    if state.facts().get(place.at, place.variable).is_none() {
+        return Ok(false);
+    }
+    is_touched_at(state, place.at, place.variable)
+}
+
+// The thread's code assigns the variable, receives into it or has it in a guard.
+fn is_touched_at(state: &State, name: Name, variable: Name) -> Result<bool, NoMemory>
+    ensures { IfOk result (λ b. b ≡ is_among (touched_in (stands_at state.now name)) variable) }
+{
+    match state.code_of(name) {
+        None => Ok(false),
+        Some(code) => is_touched_by_code(code, variable),
+    }
+}
+
+fn is_touched_by_code(code: &Code, variable: Name) -> Result<bool, NoMemory>
+    ensures { IfOk result (λ b. b ≡ is_among (touched_in code.now) variable) }
+{
+    let mut place = 0u64;
+    while let Some(statement) = code.at(place) {
+        if is_touched_by(statement, variable) {
+            return Ok(true);
+        }
+        place = place.checked_add(1).ok_or(NoMemory)?;
+    }
+    Ok(false)
+}
+
 #[cycle(touched)]
-fn is_touched_in(body: &Block, variable: Name) -> bool {
+fn is_touched_in(body: &Block, variable: Name) -> bool
+    ensures { result ≡ is_among (touched_in body.now) variable }
+{
     for statement in &body.items {
         if is_touched_by(statement, variable) {
             return true;
@@ -108,13 +139,15 @@ fn is_touched_in(body: &Block, variable: Name) -> bool {
 }
 
 #[cycle(touched)]
-fn is_touched_by(statement: &Stmt, variable: Name) -> bool {
+fn is_touched_by(statement: &Stmt, variable: Name) -> bool
+    ensures { result ≡ is_among (touched_by (statement_of statement.now)) variable }
+{
     match statement {
         Stmt::Assign(name, _) => *name == variable,
         Stmt::Send(_, _, _) => false,
-        Stmt::Recv(_, names, _) => names.items.contains(&variable),
+        Stmt::Recv(_, names, _) => has_name(&names.items, variable),
         Stmt::RecvAny(any) => {
-            any.vars.items.contains(&variable) || is_touched_in(&any.body, variable)
+            has_name(&any.vars.items, variable) || is_touched_in(&any.body, variable)
         }
         Stmt::If(guard, yes, None) => is_in(guard, variable) || is_touched_in(yes, variable),
         Stmt::If(guard, yes, Some(no)) => {

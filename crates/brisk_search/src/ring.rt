@@ -1,11 +1,17 @@
 //! A drive, its rounds, and the tries inside, all on one walk.
-ghost use Rattle.std.specs.Prelude.{IfOk};
-ghost use Rattle.brisk_search.specs.Led.{Drove, Sides, Tried, Turned};
+ghost use Rattle.std.specs.Prelude.{◌+◌, List, IfOk};
+ghost use Rattle.brisk_loops.specs.Walk.{Open};
+ghost use Rattle.brisk_rules.specs.Rules.{Parted};
+ghost use Rattle.brisk_search.specs.declared.drive.Drive.TheVariants.{Top};
+ghost use Rattle.brisk_search.specs.Met.{IsInFirst, IsReady, MeetsDrive, MeetsSides, MeetsTry, MeetsTurn, around_at, drive_at, sides_at, tries_at, try_at};
+ghost use Rattle.brisk_search.specs.Passes.{round};
+ghost use Rattle.brisk_search.specs.Views.{attempt_of, branch_at, drive_seen, failures_of, later_rules, left_of, sides_in};
+ghost use Rattle.brisk_values.specs.Names.{Name as Named};
 
 use crate::calls::{at_first, at_last, closes, crosses, enters, gives_up, joins};
 use crate::closing::Premise;
 use crate::compound::{Compound, branch_of, rules_of, with_steps};
-use crate::drive::{Comer, Drive, comers, is_at_goal};
+use crate::drive::{Comer, Drive, comers, is_at_goal, premise_of};
 use crate::failing::{end_of, is_refused, last_tries};
 use crate::limits::{Limits, Pass};
 use crate::loss::at_risk;
@@ -24,11 +30,13 @@ pub(crate) fn drive(
     asked: &Drive,
     room: u16,
 ) -> Result<Driven, NoMemory>
-    ensures { IfOk result (λ o. Drove o walk.old walk.new) }
+    requires { IsReady limits.now.budget room asked.now walk.old }
+    ensures { IfOk result (λ o. MeetsDrive limits.now.budget (drive_at limits.now.budget limits.now.pass room asked.now walk.old) o walk.old walk.new) }
 {
     let mut made: Vec<Step> = Vec::new(limits.alloc);
-    for _ in 0..limits.rounds(walk) {
-        if is_at_goal(limits.alloc, walk, asked)? {
+    let count = limits.rounds(walk);
+    for _round in 0..count {
+        if is_at_goal(walk, asked)? {
             return Ok(Driven::Reached(Steps { items: made }));
         }
         let mut failures: Vec<Failed> = Vec::new(limits.alloc);
@@ -41,7 +49,8 @@ pub(crate) fn drive(
             Turn::Spent => return Ok(Driven::Spent),
         }
     }
-    limits.out_of_rounds()
+    // The rounds are enough, so no drive comes here.
+    Err(NoMemory)
 }
 
 // A round: the first that can go does.
@@ -53,7 +62,8 @@ fn round(
     room: u16,
     failures: &mut Vec<Failed>,
 ) -> Result<Turn, NoMemory>
-    ensures { IfOk result (λ t. Turned t walk.old walk.new) }
+    requires { IsReady limits.now.budget room asked.now walk.old }
+    ensures { IfOk result (λ t. MeetsTurn limits.now.budget (round (around_at limits.now.pass room asked.now walk.old) (drive_seen walk.old.entered asked.now) walk.old.state (failures_of failures.old.items) (left_of limits.now.budget walk.old.applied)) t (failures_of failures.new.items) walk.old walk.new) }
 {
     let comers = comers(limits.alloc, walk, asked)?;
     for comer in &comers {
@@ -76,7 +86,8 @@ fn acts(
     room: u16,
     failures: &mut Vec<Failed>,
 ) -> Result<Turn, NoMemory>
-    ensures { IfOk result (λ t. Turned t walk.old walk.new) }
+    requires { IsReady limits.now.budget room asked.now walk.old }
+    ensures { IfOk result (λ t. MeetsTurn limits.now.budget (attempt_of (around_at limits.now.pass room asked.now walk.old) walk.old.state comer.now (failures_of failures.old.items) (left_of limits.now.budget walk.old.applied)) t (failures_of failures.new.items) walk.old walk.new) }
 {
     let (name, head) = asks(limits.alloc, walk, comer)?;
     let forks = head.is_if();
@@ -97,7 +108,8 @@ fn rules(
     room: u16,
     failures: &mut Vec<Failed>,
 ) -> Result<Turn, NoMemory>
-    ensures { IfOk result (λ t. Turned t walk.old walk.new) }
+    requires { IsReady limits.now.budget room Top walk.old }
+    ensures { IfOk result (λ t. MeetsTurn limits.now.budget (later_rules (around_at limits.now.pass room Top walk.old) walk.old.state name head.now (failures_of failures.old.items) (left_of limits.now.budget walk.old.applied)) t (failures_of failures.new.items) walk.old walk.new) }
 {
     let rules = rules_of(limits.alloc, walk.state(), name, head)?;
     for rule in &rules {
@@ -119,7 +131,8 @@ fn nine_tries(
     room: u16,
     failures: &mut Vec<Failed>,
 ) -> Result<Turn, NoMemory>
-    ensures { IfOk result (λ t. Turned t walk.old walk.new) }
+    requires { IsReady limits.now.budget room Top walk.old }
+    ensures { IfOk result (λ t. MeetsTurn limits.now.budget (tries_at limits.now.pass room rule.now walk.old (failures_of failures.old.items) (left_of limits.now.budget walk.old.applied)) t (failures_of failures.new.items) walk.old walk.new) }
 {
     let mut drops = Drops {
         items: Vec::new(limits.alloc),
@@ -129,7 +142,7 @@ fn nine_tries(
         is_refused(failures, rule.at, step, Why::Side(SideFault::TooDeep))?;
         return Ok(Turn::Stays);
     };
-    for _ in 0..8 {
+    for _try in 0..8u8 {
         match one_try(limits, walk, rule, drops, below, failures)? {
             Came::To(turn) => return Ok(turn),
             Came::Losing(more) => drops = more,
@@ -152,22 +165,24 @@ fn one_try(
     below: u16,
     failures: &mut Vec<Failed>,
 ) -> Result<Came, NoMemory>
-    ensures { IfOk result (λ o. Tried o walk.old walk.new) }
+    requires { IsReady limits.now.budget (below + 1) Top walk.old }
+    ensures { IfOk result (λ o. MeetsTry limits.now.budget walk.old.program drops (try_at limits.now.budget limits.now.pass below rule.now drops (failures_of failures.old.items) walk.old) o (failures_of failures.new.items) walk.old walk.new) }
 {
     let _code: Option<Code> = None;
     let _fault: Option<SideFault> = None;
     let _why: Option<Why> = None;
     let step = rule.step(limits.alloc, &drops)?;
-    let premise = Drive::Premise(rule.premise(limits.alloc, walk, drops)?);
+    let around = walk.depth();
     if let Some(why) = enters(walk, &step)? {
         is_refused(failures, rule.at, step, why)?;
         return Ok(Came::To(Turn::Stays));
     }
-    match drive(limits, walk, &premise, below)? {
+    let asked = premise_of(walk, around, drops)?;
+    match drive(limits, walk, &asked, below)? {
         Driven::Spent => Ok(Came::To(Turn::Spent)),
-        Driven::Reached(steps) => closes(limits, walk, &premise, step, steps),
+        Driven::Reached(steps) => closes(limits, walk, &asked, step, steps),
         Driven::Stuck(steps, tries) => {
-            let end = end_of(limits.alloc, walk, &premise, tries)?;
+            let end = end_of(walk, &asked, tries)?;
             gives_up(walk, rule.at, with_steps(step, steps), end, failures)?;
             Ok(Came::To(Turn::Stays))
         }
@@ -184,7 +199,8 @@ fn branch(
     room: u16,
     failures: &mut Vec<Failed>,
 ) -> Result<Turn, NoMemory>
-    ensures { IfOk result (λ t. Turned t walk.old walk.new) }
+    requires { IsReady limits.now.budget room asked.now walk.old }
+    ensures { IfOk result (λ t. MeetsTurn limits.now.budget (branch_at (around_at limits.now.pass room asked.now walk.old) walk.old.state name (failures_of failures.old.items) (left_of limits.now.budget walk.old.applied)) t (failures_of failures.new.items) walk.old walk.new) }
 {
     let step = branch_of(limits.alloc, name);
     let Some(below) = room.checked_sub(1) else {
@@ -217,7 +233,8 @@ fn sides(
     rest: Code,
     below: u16,
 ) -> Result<Sided, NoMemory>
-    ensures { IfOk result (λ o. Sides o walk.old walk.new) }
+    requires { IsReady limits.now.budget below asked.now walk.old }
+    ensures { (p : Parted) (o : Open) (more : List Open) → IsInFirst p o more walk.old → IfOk result (λ s. MeetsSides limits.now.budget (sides_at limits.now.budget limits.now.pass below (sides_in limits.now.pass (drive_seen walk.old.entered asked.now) name rest) name p walk.old) name p o more s walk.old walk.new) }
 {
     let _premise: Option<Premise> = None;
     match limits.pass {
@@ -234,7 +251,8 @@ fn both_sides(
     asked: &Drive,
     below: u16,
 ) -> Result<Sided, NoMemory>
-    ensures { IfOk result (λ o. Sides o walk.old walk.new) }
+    requires { IsReady limits.now.budget below asked.now walk.old }
+    ensures { (t : Named) (p : Parted) (o : Open) (more : List Open) → IsInFirst p o more walk.old → IfOk result (λ s. MeetsSides limits.now.budget (sides_at limits.now.budget limits.now.pass below (drive_seen walk.old.entered asked.now) t p walk.old) t p o more s walk.old walk.new) }
 {
     match drive(limits, walk, asked, below)? {
         Driven::Spent => Ok(Sided::Spent),

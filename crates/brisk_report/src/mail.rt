@@ -93,7 +93,8 @@ fn put_receivers(
         return Ok(());
     }
     for receiver in &program.roles.items {
-        put_channels(out, program, &sent_to(alloc, messages, &receiver.name)?)?;
+        let sent = sent_to(alloc, messages, &receiver.name)?;
+        put_channels(out, program, &sent)?;
     }
     Ok(())
 }

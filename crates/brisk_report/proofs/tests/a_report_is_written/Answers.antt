@@ -4,4 +4,4 @@ use Rattle.brisk_report.proofs.Sampled.{sample_typed}
 use Rattle.brisk_report.proofs.tests.a_report_is_written.Goals as goal
 
 pub print_report-requires : goal.print_report-requires
-print_report-requires c = subst IsProgramWellTyped (sym c.in_ok-program.ensures) sample_typed
+print_report-requires g c = subst IsProgramWellTyped (sym c.in_ok-program.ensures) sample_typed

@@ -8,7 +8,7 @@ use brisk_derivation::{
     BasicStep, Drops, Fact, Report, SideFault, Step, Steps, Tries, Try, TryEnd,
 };
 use brisk_syntax::{
-    Block, Channel, Channels, Decls, Enums, Exprs, Kinds, Names, Program, Role, Roles, Stmt, Who,
+    Block, Channel, Channels, Decls, Enums, Exprs, Kinds, Program, Role, Roles, Stmt, Who,
 };
 use brisk_values::Name;
 use std::alloc::Global;

@@ -2,7 +2,7 @@
 ghost use Rattle.std.specs.Prelude.{◌≡◌, ◌++◌, OnOk};
 ghost use Rattle.brisk_derivation.specs.Seen.{step_of};
 ghost use Rattle.brisk_derivation.specs.TriesSeen.{end_of, try_of};
-ghost use Rattle.brisk_report.specs.Printing.{end_text, second_text, steps_text, stuck_text, tried_text, tries_text, try_text};
+ghost use Rattle.brisk_report.specs.Printing.{end_text, second_text, steps_text, stuck_text, tried_text, try_text};
 
 use crate::faults::put_fault;
 use brisk_derivation::{SideFault, Step, Steps, Tries, Try, TryEnd};

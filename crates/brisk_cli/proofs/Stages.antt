@@ -1,5 +1,5 @@
 -- What is answered on the way to a command's own answer, and where nothing is.
-use Rattle.std.proofs.Common.{◌≡◌, ℕ, ◌≤◌, Bool, true, false, List, length, IsTrue, Option, Some, None, IfSome, Result, Ok, Err, refl, sym, subst, arith}
+use Rattle.std.proofs.Common.{◌≡◌, ℕ, ◌≤◌, Bool, true, false, List, length, IsTrue, Option, Some, None, IfSome, Result, Ok, Err, refl, sym, subst, arith, ◌∙◌}
 use Rattle.std.specs.Prelude.{nat_le}
 use Rattle.std.proofs.lemmas.Bool.{le-leb}
 use Rattle.brisk_io.specs.Causes.{Files, Rose}
@@ -69,7 +69,7 @@ module _ (limit : ℕ) (name : Text) (next : Text → Status → Text → Type 0
 rose_before : (old mid now : ℕ) → old ≤ mid → Rose mid now → Rose old now
 rose_before old mid now le rose = omega arith
 
--- ---- the first file of a command, and its second
+-- ---- the first file of a command, its second, and its third
 
 module _ (limit : ℕ) (name : Text) (L : Language) (f : Files) (next : Option ℕ → L.Tree → Status → Text → Type 0) where
   -- the answer where this follows for the tree that the first file holds
@@ -101,20 +101,43 @@ module _ (limit : ℕ) (name : Text) (L : Language) (f : Files) (next : Option �
       }
 
 -- the answer for the second file, where this follows for its bytes
-abbrev pub Second : {Tree : Type 0} → ℕ → Text → (Tree → Text → Status → Text → Type 0) → Files → Option ℕ → Tree → Status → Text → Type 0
-Second most second own f failed tree s t = OfFile most second (f second) (is_failed 1 failed) (own tree) s t
+abbrev pub Second : {Tree : Type 0} → ℕ → Text → (Files → Option ℕ → Tree → Text → Status → Text → Type 0) → Files → Option ℕ → Tree → Status → Text → Type 0
+Second most second own f failed tree s t = OfFile most second (f second) (is_failed 1 failed) (own f failed tree) s t
 
-module _ (limit : ℕ) (name : Text) (L : Language) (f : Files) (most : ℕ) (second : Text) (own : L.Tree → Text → Status → Text → Type 0) (bytes : Text) (tree : L.Tree) (is : f name ≡ Some bytes) (few : length bytes ≤ limit) (holds : Holds L bytes tree) (old mid now : ℕ) (s : Status) (t : Text) where
-  pub second_unread_told : old ≤ mid → IsUnreadable mid now most second (f second) s t → Replies old now (First limit name L f (Second most second own f)) s t
+-- the answer for the third file, where this follows for its bytes and those of the second
+abbrev pub Third : {Tree : Type 0} → ℕ → Text → (Tree → Text → Text → Status → Text → Type 0) → Files → Option ℕ → Tree → Text → Status → Text → Type 0
+Third most third own f failed tree text s t = OfFile most third (f third) (is_failed 2 failed) (own tree text) s t
+
+module _ (limit : ℕ) (name : Text) (L : Language) (f : Files) (most : ℕ) (second : Text) (own : Files → Option ℕ → L.Tree → Text → Status → Text → Type 0) (bytes : Text) (tree : L.Tree) (is : f name ≡ Some bytes) (few : length bytes ≤ limit) (holds : Holds L bytes tree) (old mid now : ℕ) (s : Status) (t : Text) where
+  abbrev pub Answer_of_two : Type 0
+  Answer_of_two = Replies old now (First limit name L f (Second most second own f)) s t
+
+  pub second_unread_told : old ≤ mid → IsUnreadable mid now most second (f second) s t → Answer_of_two
   second_unread_told le h = by h.failed h.rose h.answer
     where
-      by : (failed : Bool) → (IsTrue failed → Rose mid now) → OfFile most second (f second) failed (λ bs a b. ⊥) s t → Replies old now (First limit name L f (Second most second own f)) s t
-      by true rose h = next_told limit name L f (Second most second own f) bytes tree (Some 1) old now s t is few holds refl (rose_before old mid now le (rose refl)) (file_stops most second (own tree) s t (f second) true h)
-      by false rose h = next_told limit name L f (Second most second own f) bytes tree None old now s t is few holds refl tt (file_stops most second (own tree) s t (f second) false h)
+      by : (failed : Bool) → (IsTrue failed → Rose mid now) → OfFile most second (f second) failed (λ bs a b. ⊥) s t → Answer_of_two
+      by true rose h = next_told limit name L f (Second most second own f) bytes tree (Some 1) old now s t is few holds refl (rose_before old mid now le (rose refl)) (file_stops most second (own f (Some 1) tree) s t (f second) true h)
+      by false rose h = next_told limit name L f (Second most second own f) bytes tree None old now s t is few holds refl tt (file_stops most second (own f None tree) s t (f second) false h)
 
-  pub own_told : (text : Text) → f second ≡ Some text → length text ≤ most → own tree text s t → Replies old now (First limit name L f (Second most second own f)) s t
-  own_told text there short h =
-      next_told limit name L f (Second most second own f) bytes tree None old now s t is few holds refl tt (file_goes most second (own tree) s t (f second) text there short h)
+  -- what follows for the second file's bytes is answered, where the read of no file, or only that of a later one, failed
+  pub second_told : (text : Text) (failed : Option ℕ) → f second ≡ Some text → length text ≤ most → is_failed 0 failed ≡ false → is_failed 1 failed ≡ false → IfSome failed (λ place. Rose old now) → own f failed tree text s t → Answer_of_two
+  second_told text failed there short later latest rose h =
+      next_told limit name L f (Second most second own f) bytes tree failed old now s t is few holds later rose (subst (λ (b : Bool). OfFile most second (f second) b (own f failed tree) s t) (sym latest) (file_goes most second (own f failed tree) s t (f second) text there short h))
+
+module _ (limit : ℕ) (name : Text) (L : Language) (f : Files) (most : ℕ) (second : Text) (most' : ℕ) (third : Text) (own : L.Tree → Text → Text → Status → Text → Type 0) (bytes : Text) (tree : L.Tree) (is : f name ≡ Some bytes) (few : length bytes ≤ limit) (holds : Holds L bytes tree) (text : Text) (there : f second ≡ Some text) (short : length text ≤ most) (old mid now : ℕ) (s : Status) (t : Text) where
+  abbrev pub Answer_of_three : Type 0
+  Answer_of_three = Answer_of_two limit name L f most second (Third most' third own) bytes tree is few holds old mid now s t
+
+  pub third_unread_told : old ≤ mid → IsUnreadable mid now most' third (f third) s t → Answer_of_three
+  third_unread_told le h = by h.failed h.rose h.answer
+    where
+      by : (failed : Bool) → (IsTrue failed → Rose mid now) → OfFile most' third (f third) failed (λ bs a b. ⊥) s t → Answer_of_three
+      by true rose h = second_told limit name L f most second (Third most' third own) bytes tree is few holds old mid now s t text (Some 2) there short refl refl (rose_before old mid now le (rose refl)) (file_stops most' third (own tree text) s t (f third) true h)
+      by false rose h = second_told limit name L f most second (Third most' third own) bytes tree is few holds old mid now s t text None there short refl refl tt (file_stops most' third (own tree text) s t (f third) false h)
+
+  pub third_told : (also : Text) → f third ≡ Some also → length also ≤ most' → own tree text also s t → Answer_of_three
+  third_told also at fits h =
+      second_told limit name L f most second (Third most' third own) bytes tree is few holds old mid now s t text None there short refl refl tt (file_goes most' third (own tree text) s t (f third) also at fits h)
 
 -- ---- results
 
@@ -166,8 +189,8 @@ module _ (limit : ℕ) (name : Text) (L : Language) (next : Files → Option ℕ
   next_answered bytes seen tree few view there holds h =
       of_files (λ f. f name ≡ Some bytes) Command (λ f at. answer_so (next f None tree) (Replies old now (First limit name L f (next f))) (λ s t k. next_told limit name L f (next f) bytes tree None old now s t at few (subst (λ (b : Text). Holds L b tree) view holds) refl tt k) r (h f)) files there
 
--- of a command with two files
-module _ (limit : ℕ) (name : Text) (L : Language) (most : ℕ) (second : Text) (own : L.Tree → Text → Status → Text → Type 0) (files files' : Option Files) (kept : files' ≡ files) (old mid now : ℕ) (r : Result Answer Stopped) (bytes seen : Text) (tree : L.Tree) (few : length bytes ≤ limit) (view : seen ≡ bytes) (there : IfSome files (λ f. f name ≡ Some bytes)) (holds : Holds L seen tree) where
+-- of a command with two files, or more
+module _ (limit : ℕ) (name : Text) (L : Language) (most : ℕ) (second : Text) (own : Files → Option ℕ → L.Tree → Text → Status → Text → Type 0) (files files' : Option Files) (kept : files' ≡ files) (old mid now : ℕ) (r : Result Answer Stopped) (bytes seen : Text) (tree : L.Tree) (few : length bytes ≤ limit) (view : seen ≡ bytes) (there : IfSome files (λ f. f name ≡ Some bytes)) (holds : Holds L seen tree) where
   held : Holds L bytes tree
   held = subst (λ (b : Text). Holds L b tree) view holds
 
@@ -178,6 +201,28 @@ module _ (limit : ℕ) (name : Text) (L : Language) (most : ℕ) (second : Text)
   second_unread_answered e e' is same le h =
       of_files (λ f. (f name ≡ Some bytes) × IsTold (IsUnreadable mid now most second (f second)) e) Both (λ f k. told_answer (IsUnreadable mid now most second (f second)) (Replies old now (First limit name L f (Second most second own f))) (λ s t u. second_unread_told limit name L f most second own bytes tree k.0 few held old mid now s t le u) r e e' is same k.1) files (both_files (λ f. f name ≡ Some bytes) (λ f. IsTold (IsUnreadable mid now most second (f second)) e) files files' kept there h)
 
-  pub own_answered : (text read : Text) → length text ≤ most → read ≡ text → IfSome files' (λ f. f second ≡ Some text) → IfAnswer (own tree read) r → IfSome files Both
-  own_answered text read short sees also h =
-      of_files (λ f. (f name ≡ Some bytes) × (f second ≡ Some text)) Both (λ f k. answer_so (own tree text) (Replies old now (First limit name L f (Second most second own f))) (λ s t u. own_told limit name L f most second own bytes tree k.0 few held old mid now s t text k.1 short u) r (subst (λ (b : Text). IfAnswer (own tree b) r) sees h)) files (both_files (λ f. f name ≡ Some bytes) (λ f. f second ≡ Some text) files files' kept there also)
+  pub second_answered : (text read : Text) → length text ≤ most → read ≡ text → IfSome files' (λ f. f second ≡ Some text) → ((f : Files) → IfAnswer (own f None tree read) r) → IfSome files Both
+  second_answered text read short sees also h =
+      of_files (λ f. (f name ≡ Some bytes) × (f second ≡ Some text)) Both (λ f k. answer_so (own f None tree text) (Replies old now (First limit name L f (Second most second own f))) (λ s t u. second_told limit name L f most second own bytes tree k.0 few held old mid now s t text None k.1 short refl refl tt u) r (subst (λ (b : Text). IfAnswer (own f None tree b) r) sees (h f))) files (both_files (λ f. f name ≡ Some bytes) (λ f. f second ≡ Some text) files files' kept there also)
+
+-- of a command with three files
+module _ (limit : ℕ) (name : Text) (L : Language) (most : ℕ) (second : Text) (most' : ℕ) (third : Text) (own : L.Tree → Text → Text → Status → Text → Type 0) (files files' files'' : Option Files) (kept : files' ≡ files) (kept' : files'' ≡ files') (old mid now : ℕ) (r : Result Answer Stopped) (bytes seen : Text) (tree : L.Tree) (few : length bytes ≤ limit) (view : seen ≡ bytes) (there : IfSome files (λ f. f name ≡ Some bytes)) (holds : Holds L seen tree) (text read : Text) (short : length text ≤ most) (sees : read ≡ text) (also : IfSome files' (λ f. f second ≡ Some text)) where
+  held' : Holds L bytes tree
+  held' = subst (λ (b : Text). Holds L b tree) view holds
+
+  abbrev Here : Files → Type 0
+  Here f = (f name ≡ Some bytes) × (f second ≡ Some text)
+
+  here : IfSome files Here
+  here = both_files (λ f. f name ≡ Some bytes) (λ f. f second ≡ Some text) files files' kept there also
+
+  abbrev pub All : Files → Type 0
+  All f = IfAnswer (Replies old now (First limit name L f (Second most second (Third most' third own) f))) r
+
+  pub third_unread_answered : (e e' : Stopped) → r ≡ Err e' → e' ≡ e → old ≤ mid → IfSome files'' (λ f. IsTold (IsUnreadable mid now most' third (f third)) e) → IfSome files All
+  third_unread_answered e e' is same le h =
+      of_files (λ f. Here f × IsTold (IsUnreadable mid now most' third (f third)) e) All (λ f k. told_answer (IsUnreadable mid now most' third (f third)) (Replies old now (First limit name L f (Second most second (Third most' third own) f))) (λ s t u. third_unread_told limit name L f most second most' third own bytes tree k.0.0 few held' text k.0.1 short old mid now s t le u) r e e' is same k.1) files (both_files Here (λ f. IsTold (IsUnreadable mid now most' third (f third)) e) files files'' (kept' ∙ kept) here h)
+
+  pub third_answered : (last seen_last : Text) → length last ≤ most' → seen_last ≡ last → IfSome files'' (λ f. f third ≡ Some last) → IfAnswer (own tree read seen_last) r → IfSome files All
+  third_answered last seen_last fits sees_last at h =
+      of_files (λ f. Here f × (f third ≡ Some last)) All (λ f k. answer_so (own tree text last) (Replies old now (First limit name L f (Second most second (Third most' third own) f))) (λ s t u. third_told limit name L f most second most' third own bytes tree k.0.0 few held' text k.0.1 short old mid now s t last k.1 fits u) r (subst (λ (b : Text). IfAnswer (own tree text b) r) sees_last (subst (λ (b : Text). IfAnswer (own tree b seen_last) r) sees h))) files (both_files Here (λ f. f third ≡ Some last) files files'' (kept' ∙ kept) here at)

@@ -6,12 +6,13 @@ use Rattle.brisk_cli.specs.declared.answer.Stopped.{Stopped}
 use Rattle.brisk_cli.specs.declared.answer.Stopped.TheVariants as stopped
 use Rattle.brisk_cli.specs.declared.status.Status.{Status}
 use Rattle.brisk_cli.specs.declared.status.Status.TheVariants.{Done, Refused, Usage, BadInput, NoFile, ReadFault, WriteFault, NoMemory}
-use Rattle.brisk_cli.specs.Commands.{Command, Rewrite, Run, Order, command_of}
+use Rattle.brisk_cli.specs.Checks.{OfDerivation}
+use Rattle.brisk_cli.specs.Commands.{Command, Rewrite, Derive, Check, Run, Order, command_of}
 use Rattle.brisk_cli.specs.Files.{Text, Put}
 use Rattle.brisk_cli.specs.Languages.{OfText, sources, sequences}
 use Rattle.brisk_cli.specs.Lines.{file_line}
 use Rattle.brisk_cli.specs.Orders.{OfChoices}
-use Rattle.brisk_cli.specs.Rewriting.{OfRewriting}
+use Rattle.brisk_cli.specs.Rewriting.{OfDeriving, OfRewriting}
 use Rattle.brisk_cli.specs.Runs.{OfSchedule}
 
 -- the number with which the program ends
@@ -27,7 +28,7 @@ number_of NoMemory = 6
 
 -- ---- files
 
--- the greatest numbers of bytes of a source, of a sequential text, and of a schedule or choices
+-- the greatest numbers of bytes of a source, of a sequential text or a derivation, and of a schedule or choices
 abbrev pub source_limit : ℕ
 source_limit = 1048576
 
@@ -66,6 +67,18 @@ abbrev pub OfRewrite : Text → Files → Option ℕ → Status → Text → Typ
 OfRewrite f files failed status text =
     OfFile source_limit f (files f) (is_failed 0 failed) (λ bytes. OfText sources bytes OfRewriting) status text
 
+-- `derive F`: the source is read and judged, and its derivation is answered
+abbrev pub OfDerive : Text → Files → Option ℕ → Status → Text → Type 0
+OfDerive f files failed status text =
+    OfFile source_limit f (files f) (is_failed 0 failed) (λ bytes. OfText sources bytes OfDeriving) status text
+
+-- `check F SEQ DERIV`: the source is read and judged, then the sequential text is read, and then the derivation is read and judged
+abbrev pub OfCheck : Text → Text → Text → Files → Option ℕ → Status → Text → Type 0
+OfCheck f g h files failed status text =
+    OfFile source_limit f (files f) (is_failed 0 failed) (λ bytes. OfText sources bytes (λ P.
+    OfFile sequential_limit g (files g) (is_failed 1 failed) (λ sequential.
+    OfFile sequential_limit h (files h) (is_failed 2 failed) (OfDerivation P sequential)))) status text
+
 -- `run F SCHEDULE`: the source is read and judged, then the schedule is read and judged, and played
 abbrev pub OfRun : Text → Text → Files → Option ℕ → Status → Text → Type 0
 OfRun f g files failed status text =
@@ -80,6 +93,8 @@ OfOrder f g files failed status text =
 abbrev pub OfWords : Option Command → Files → Option ℕ → Status → Text → Type 0
 OfWords None files failed status text = (status ≡ Usage) × (text ≡ codes "usage\n")
 OfWords (Some (Rewrite f)) files failed status text = OfRewrite f files failed status text
+OfWords (Some (Derive f)) files failed status text = OfDerive f files failed status text
+OfWords (Some (Check f g h)) files failed status text = OfCheck f g h files failed status text
 OfWords (Some (Run f g)) files failed status text = OfRun f g files failed status text
 OfWords (Some (Order f g)) files failed status text = OfOrder f g files failed status text
 

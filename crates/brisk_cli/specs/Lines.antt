@@ -2,11 +2,18 @@
 use Rattle.std.specs.Prelude.{ℕ, List, ◌++◌, codes, slice_get, Option, Some, None, option_map}
 use Rattle.std.specs.Fmt.{decimal}
 use Rattle.std.specs.Option.{unwrap_or}
+use Rattle.brisk_basic.specs.declared.rule.RuleFault.{RuleFault}
+use Rattle.brisk_basic.specs.declared.rule.RuleFault.TheVariants as rule
+use Rattle.brisk_check.specs.declared.verdict.CheckFault.{CheckFault}
+use Rattle.brisk_check.specs.declared.verdict.CheckFault.TheVariants as check
 use Rattle.brisk_lex.specs.declared.token.Placed.{Placed}
 use Rattle.brisk_lex.specs.declared.fault.LexFault.{LexFault}
 use Rattle.brisk_lex.specs.declared.fault.LexFault.TheVariants as lex
 use Rattle.brisk_parse.specs.declared.fault.ParseFault.{ParseFault}
 use Rattle.brisk_parse.specs.declared.fault.ParseFault.TheVariants as parse
+use Rattle.brisk_report.specs.Printing.{fault_text}
+use Rattle.brisk_rules.specs.declared.why.Why.{Why}
+use Rattle.brisk_rules.specs.declared.why.Why.TheVariants as why
 use Rattle.brisk_schedule.specs.declared.fault.ScheduleFault.{ScheduleFault}
 use Rattle.brisk_schedule.specs.declared.fault.ScheduleFault.TheVariants as schedule
 use Rattle.brisk_types.specs.declared.fault.TypeFault.{TypeFault}
@@ -61,3 +68,31 @@ schedule_line word (schedule.Text k) = Some (numbered word (codes "Text") k)
 schedule_line word (schedule.Misfit k) = Some (numbered word (codes "Misfit") k)
 schedule_line word (schedule.TooLarge k) = Some (numbered word (codes "TooLarge") k)
 schedule_line word schedule.NoMemory = None
+
+-- the line of a fault of a derivation's text
+abbrev pub derivation_line : CheckFault → Option Text
+derivation_line (check.Deriv k) = Some (numbered (codes "derivation") (codes "Line") k)
+derivation_line (check.TooLarge k) = Some (numbered (codes "derivation") (codes "TooLarge") k)
+derivation_line check.NoMemory = None
+
+-- the name of a basic rule's own test
+abbrev pub rule_text : RuleFault → Option Text
+rule_text rule.NoThread = Some (codes "NoThread")
+rule_text rule.WrongHead = Some (codes "WrongHead")
+rule_text rule.BoxInUse = Some (codes "BoxInUse")
+rule_text rule.AlreadyPending = Some (codes "AlreadyPending")
+rule_text rule.NothingPending = Some (codes "NothingPending")
+rule_text rule.NotKnown = Some (codes "NotKnown")
+rule_text rule.NoMemory = None
+
+-- the name of a test, and of the thread that it names
+abbrev pub why_text : Why → Option Text
+why_text (why.Rule fault) = rule_text fault
+why_text (why.Side fault) = Some (fault_text fault)
+
+-- the line of a derivation of which this test is the first that fails, at this line
+abbrev pub failing : ℕ → Text → Text
+failing line test = codes "invalid " ++ decimal line ++ codes " " ++ test ++ codes "\n"
+
+abbrev pub invalid_line : ℕ → Why → Option Text
+invalid_line line w = option_map (failing line) (why_text w)

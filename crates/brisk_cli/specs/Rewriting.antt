@@ -1,4 +1,4 @@
--- What is answered for a program that is to be rewritten.
+-- What is answered for a program that is to be rewritten, or whose derivation is asked for.
 use Rattle.std.specs.Prelude.{◌≡◌, ◌⊎◌, ℕ, ◌+◌, ◌*◌, ◌^◌, ◌-◌, ◌++◌, min, Bool, true, false, codes}
 use Rattle.brisk_instance.specs.Given.{instance_of}
 use Rattle.brisk_syntax.specs.declared.program.Program.{Program}
@@ -6,8 +6,10 @@ use Rattle.brisk_syntax.specs.Classes.{is_star}
 use Rattle.brisk_syntax.specs.Counts.{program_statements}
 use Rattle.brisk_seq.specs.declared.tree.SeqProgram.{SeqProgram}
 use Rattle.brisk_async.specs.PlainRuns.{Deadlocks, Overtakes, plain_instance, plain_schedule}
+use Rattle.brisk_derivation.specs.Steps.{Steps}
+use Rattle.brisk_derivtext.specs.Texts.{derivation_text}
 use Rattle.brisk_print.specs.Layout.{sequential}
-use Rattle.brisk_rules.specs.Derives.{Derivable}
+use Rattle.brisk_rules.specs.Derives.{Derivable, Valid}
 use Rattle.brisk_schedule.specs.declared.schedule.Schedule.{Schedule}
 use Rattle.brisk_schedule.specs.Texts.{schedule_text}
 use Rattle.brisk_trace.specs.Plain.{IsPlainSchedule, IsOvertakingSchedule}
@@ -53,8 +55,18 @@ OfStandstill P text = ((is_star P ≡ true) × OfOvertaking P text) ⊎ (NeverOv
 abbrev pub OfRefusal : Program → Text → Type 0
 OfRefusal P text = OfDeadlock P text ⊎ (NeverDeadlocks P × OfStandstill P text)
 
+-- the answer that tells why a program isn't rewritten
+abbrev pub IsRefusal : Program → Status → Text → Type 0
+IsRefusal P status text = (status ≡ Refused) × OfRefusal P text
+
 -- the answer for a well-typed program: the layout of a sequential program that has a valid derivation, or why there is none
 abbrev pub OfRewriting : Program → Status → Text → Type 0
 OfRewriting P Done text = (Q : SeqProgram) × Derivable P Q × (text ≡ sequential Q)
 OfRewriting P Refused text = OfRefusal P text
 OfRewriting P status text = ⊥
+
+-- the answer where a derivation is asked for: the text of a valid one, or why there is none
+abbrev pub OfDeriving : Program → Status → Text → Type 0
+OfDeriving P Done text = (D : Steps) × (Q : SeqProgram) × Valid P D Q × (text ≡ derivation_text D)
+OfDeriving P Refused text = OfRefusal P text
+OfDeriving P status text = ⊥

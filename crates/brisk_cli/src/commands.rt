@@ -1,8 +1,10 @@
 //! The commands, each with the files that it reads.
 ghost use Rattle.std.specs.Prelude.{IfSome};
-ghost use Rattle.brisk_cli.specs.Answers.{IfAnswer, IsDue, OfOrder, OfRewrite, OfRun, Replies};
+ghost use Rattle.brisk_cli.specs.Answers.{IfAnswer, IsDue, OfCheck, OfDerive, OfOrder, OfRewrite, OfRun, Replies};
 
 use crate::answer::{Answer, Stopped};
+use crate::checked::checked;
+use crate::derived::derived;
 use crate::files::file;
 use crate::order::run_choices;
 use crate::rewritten::rewritten;
@@ -14,7 +16,7 @@ use std::alloc::Global;
 /// The greatest number of bytes of a source.
 const SOURCE: usize = 1_048_576;
 
-/// The greatest number of bytes of a sequential text.
+/// The greatest number of bytes of a sequential text, and of a derivation.
 const SEQUENTIAL: usize = 16_777_216;
 
 /// The greatest number of bytes of a schedule, and of choices.
@@ -27,7 +29,35 @@ pub fn rewrite<F: Folder>(alloc: Global, folder: &mut F, name: &str) -> Result<A
 {
     let bytes = file(alloc, folder, name, SOURCE)?;
     let program = source(alloc, &bytes)?;
-    Ok(rewritten(alloc, &program)?)
+    rewritten(alloc, &program)
+}
+
+/// What is answered for `derive F`.
+pub fn derive<F: Folder>(alloc: Global, folder: &mut F, name: &str) -> Result<Answer, Stopped>
+    ensures due { IfAnswer (λ status text. IsDue (F.misses folder.old) (F.misses folder.new) (F.faults folder.old) (F.faults folder.new) status) result }
+    ensures told { IfSome (F.files folder.old) (λ files. IfAnswer (Replies (F.faults folder.old) (F.faults folder.new) (OfDerive name.now files)) result) }
+{
+    let bytes = file(alloc, folder, name, SOURCE)?;
+    let program = source(alloc, &bytes)?;
+    derived(alloc, &program)
+}
+
+/// What is answered for `check F SEQ DERIV`.
+pub fn check<F: Folder>(
+    alloc: Global,
+    folder: &mut F,
+    name: &str,
+    sequential: &str,
+    derivation: &str,
+) -> Result<Answer, Stopped>
+    ensures due { IfAnswer (λ status text. IsDue (F.misses folder.old) (F.misses folder.new) (F.faults folder.old) (F.faults folder.new) status) result }
+    ensures told { IfSome (F.files folder.old) (λ files. IfAnswer (Replies (F.faults folder.old) (F.faults folder.new) (OfCheck name.now sequential.now derivation.now files)) result) }
+{
+    let bytes = file(alloc, folder, name, SOURCE)?;
+    let program = source(alloc, &bytes)?;
+    let text = file(alloc, folder, sequential, SEQUENTIAL)?;
+    let steps = file(alloc, folder, derivation, SEQUENTIAL)?;
+    Ok(checked(alloc, &program, &text, &steps)?)
 }
 
 /// What is answered for `run F SCHEDULE`.

@@ -1,9 +1,10 @@
 //! The answers for faults of texts.
 ghost use Rattle.std.specs.Prelude.{◌≡◌, IfOk, Some};
-ghost use Rattle.brisk_cli.specs.Lines.{byte_of, lex_line, numbered, parse_line, schedule_line, type_line};
+ghost use Rattle.brisk_cli.specs.Lines.{byte_of, derivation_line, lex_line, numbered, parse_line, schedule_line, type_line};
 
 use crate::answer::Answer;
 use crate::status::Status;
+use brisk_check::CheckFault;
 use brisk_lex::{LexFault, Placed};
 use brisk_parse::ParseFault;
 use brisk_schedule::ScheduleFault;
@@ -90,5 +91,16 @@ pub fn schedule_answer(alloc: Global, word: &str, fault: ScheduleFault) -> Resul
         ScheduleFault::Misfit(line) => bad(alloc, word, "Misfit", line),
         ScheduleFault::TooLarge(line) => bad(alloc, word, "TooLarge", line),
         ScheduleFault::NoMemory => Err(NoMemory),
+    }
+}
+
+/// What is answered for a bad text of a derivation.
+pub fn derivation_answer(alloc: Global, fault: CheckFault) -> Result<Answer, NoMemory>
+    ensures { IfOk result (λ a. (a.status ≡ Status.BadInput) × (derivation_line fault ≡ Some a.text.items)) }
+{
+    match fault {
+        CheckFault::Deriv(line) => bad(alloc, "derivation", "Line", line),
+        CheckFault::TooLarge(line) => bad(alloc, "derivation", "TooLarge", line),
+        CheckFault::NoMemory => Err(NoMemory),
     }
 }

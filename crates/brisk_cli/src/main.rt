@@ -1,13 +1,19 @@
-//! Rewrites programs of processes into sequential programs, and runs both.
+//! Rewrites programs of processes into sequential programs, checks derivations, and runs both kinds of programs.
 #![tactic(auto)]
 
 mod answer;
+mod checked;
 mod commands;
+#[cfg(test)]
+mod derivations;
+mod derived;
 mod faults;
 mod files;
+mod invalid;
 mod order;
 mod rewritten;
 mod run;
+mod sequenced;
 mod serve;
 mod source;
 mod status;

@@ -1,122 +1,27 @@
 //! What `rewrite` answers for a well-typed program.
-ghost use Rattle.std.specs.Prelude.{◌≡◌, ◌++◌, true, IfOk};
-ghost use Rattle.brisk_schedule.specs.Texts.{schedule_text};
+ghost use Rattle.std.specs.Prelude.{◌≡◌, true};
 ghost use Rattle.brisk_syntax.specs.Typing.{each_has_tag};
 ghost use Rattle.brisk_syntax.specs.WellTyped.{IsProgramWellTyped, is_program_unbegun};
-ghost use Rattle.brisk_cli.specs.Rewriting.{OfRefusal, OfRewriting, OfStandstill, OfUnsequenced, budget_of};
+ghost use Rattle.brisk_cli.specs.Answers.{IfAnswer};
+ghost use Rattle.brisk_cli.specs.Rewriting.{OfRewriting};
 
-use crate::answer::Answer;
+use crate::answer::{Answer, Stopped};
+use crate::sequenced::sequenced;
 use crate::status::Status;
 use brisk_print::print_seq;
-use brisk_schedule::{Schedule, write};
-use brisk_search::{Outcome, search};
-use brisk_syntax::{Program, is_star, statements};
-use brisk_trace::{to_deadlock, to_overtaking};
-use brisk_values::NoMemory;
+use brisk_syntax::Program;
 use std::alloc::Global;
 
-// So many rules may be applied for a program without statements, and so many more for each statement.
-const LEAST_BUDGET: u64 = 20_000;
-
-const PER_STATEMENT: u64 = 64;
-
 /// The sequential program of a program, or why it isn't rewritten.
-pub fn rewritten(alloc: Global, program: &Program) -> Result<Answer, NoMemory>
+pub fn rewritten(alloc: Global, program: &Program) -> Result<Answer, Stopped>
     requires typed { IsProgramWellTyped program.now }
     requires unbegun { is_program_unbegun program.now ≡ true }
     requires tagged { each_has_tag program.now.enums ≡ true }
-    ensures { IfOk result (λ a. OfRewriting program.now a.status a.text.items) }
+    ensures { IfAnswer (OfRewriting program.now) result }
 {
-    match search(alloc, program, budget(program))? {
-        Outcome::Sequenced(_, sequential) => {
-            let text = print_seq(alloc, &sequential)?;
-            Ok(Answer {
-                status: Status::Done,
-                text,
-            })
-        }
-        Outcome::Stuck(_) => {
-            let answer = refused(alloc, program, false)?;
-            Ok(answer)
-        }
-        Outcome::Budget(_) => {
-            let answer = refused(alloc, program, true)?;
-            Ok(answer)
-        }
-    }
-}
-
-// The shipped budget of the search.
-fn budget(program: &Program) -> u64
-    ensures { result ≡ budget_of program.now }
-{
-    statements(program)
-        .saturating_mul(PER_STATEMENT)
-        .saturating_add(LEAST_BUDGET)
-}
-
-// Why a program isn't rewritten, where the search came to no derivation; it may have spent its budget.
-fn refused(alloc: Global, program: &Program, is_spent: bool) -> Result<Answer, NoMemory>
-    requires typed { IsProgramWellTyped program.now }
-    requires unbegun { is_program_unbegun program.now ≡ true }
-    requires tagged { each_has_tag program.now.enums ≡ true }
-    ensures { IfOk result (λ a. (a.status ≡ Status.Refused) × OfRefusal program.now a.text.items) }
-{
-    match to_deadlock(alloc, program)? {
-        Some(schedule) => {
-            let answer = with_schedule(alloc, b"deadlock\n", &schedule)?;
-            Ok(answer)
-        }
-        None => {
-            let answer = not_deadlocked(alloc, program, is_spent)?;
-            Ok(answer)
-        }
-    }
-}
-
-// The same where the plain run at size one doesn't deadlock.
-fn not_deadlocked(alloc: Global, program: &Program, is_spent: bool) -> Result<Answer, NoMemory>
-    requires typed { IsProgramWellTyped program.now }
-    requires unbegun { is_program_unbegun program.now ≡ true }
-    requires tagged { each_has_tag program.now.enums ≡ true }
-    ensures { IfOk result (λ a. (a.status ≡ Status.Refused) × OfStandstill program.now a.text.items) }
-{
-    if !is_star(program) {
-        let answer = unsequenced(alloc, program, is_spent)?;
-        return Ok(answer);
-    }
-    match to_overtaking(alloc, program)? {
-        Some(schedule) => {
-            let answer = with_schedule(alloc, b"overtaken\n", &schedule)?;
-            Ok(answer)
-        }
-        None => {
-            let answer = unsequenced(alloc, program, is_spent)?;
-            Ok(answer)
-        }
-    }
-}
-
-// The search came to no derivation, and nothing else is known.
-fn unsequenced(alloc: Global, program: &Program, is_spent: bool) -> Result<Answer, NoMemory>
-    ensures { IfOk result (λ a. (a.status ≡ Status.Refused) × OfUnsequenced program.now a.text.items) }
-{
-    if is_spent {
-        Answer::counted(alloc, Status::Refused, "budget", budget(program))
-    } else {
-        Answer::new(alloc, Status::Refused, b"not sequenced\n")
-    }
-}
-
-// The refusal with a word and a schedule.
-fn with_schedule(alloc: Global, word: &[u8], schedule: &Schedule) -> Result<Answer, NoMemory>
-    ensures { IfOk result (λ a. (a.status ≡ Status.Refused) × (a.text.items ≡ word.now ++ schedule_text schedule.now)) }
-{
-    let lines = write(alloc, schedule)?;
-    let mut text = Vec::from_slice(alloc, word)?;
-    text.extend_from_slice(&lines)?;
+    let (_, sequential) = sequenced(alloc, program)?;
     Ok(Answer {
-        status: Status::Refused,
-        text,
+        status: Status::Done,
+        text: print_seq(alloc, &sequential)?,
     })
 }

@@ -7,7 +7,7 @@ ghost use Rattle.brisk_cli.specs.Commands.{command_of};
 ghost use Rattle.brisk_cli.specs.Headline.{Headline};
 
 use crate::answer::{Answer, Stopped};
-use crate::commands::{order, rewrite, run};
+use crate::commands::{check, derive, order, rewrite, run};
 use crate::files::write_all;
 use crate::status::Status;
 use brisk_io::{Folder, Sink};
@@ -24,6 +24,9 @@ fn of_words<F: Folder>(alloc: Global, words: &[String], folder: &mut F) -> Resul
             if word.as_str() == "rewrite" {
                 return rewrite(alloc, folder, name.as_str());
             }
+            if word.as_str() == "derive" {
+                return derive(alloc, folder, name.as_str());
+            }
         }
         [word, name, second] => {
             if word.as_str() == "run" {
@@ -31,6 +34,17 @@ fn of_words<F: Folder>(alloc: Global, words: &[String], folder: &mut F) -> Resul
             }
             if word.as_str() == "order" {
                 return order(alloc, folder, name.as_str(), second.as_str());
+            }
+        }
+        [word, name, second, third] => {
+            if word.as_str() == "check" {
+                return check(
+                    alloc,
+                    folder,
+                    name.as_str(),
+                    second.as_str(),
+                    third.as_str(),
+                );
             }
         }
         _ => {}
@@ -78,7 +92,7 @@ pub fn serve<F: Folder, O: Sink>(
     ensures usage { IsServed (command_of (map string_bytes words.now)) result }
     // what is written is the answer for the words and the files; a read is said to have failed only where one did
     ensures answered { Answered (map string_bytes words.now) (F.files folder.old) (F.faults folder.old) (F.faults folder.new) (O.written out.old) (O.written out.new) result }
-    // what `rewrite` writes with the status of success is faithful to the processes
+    // what `rewrite` writes with the status of success, and what `check` takes, is faithful to the processes
     ensures faithful { Headline (map string_bytes words.now) (F.files folder.old) (O.written out.old) (O.written out.new) result }
 {
     answer_words(alloc, words, folder, out)

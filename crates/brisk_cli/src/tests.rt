@@ -5,7 +5,7 @@ use brisk_io::{File, MemFolder, MemSink};
 use std::alloc::Global;
 use std::test::Fail;
 
-const PING_PONG: &str = "channel Ping(int);
+pub const PING_PONG: &str = "channel Ping(int);
 channel Pong(int);
 one A {
   input n : int;
@@ -47,7 +47,7 @@ fn folder(alloc: Global, bytes: &[u8], plan: &[bool]) -> Result<MemFolder, Fail>
     })
 }
 
-fn words(alloc: Global, text: &str) -> Result<Vec<String>, Fail> {
+pub fn words(alloc: Global, text: &str) -> Result<Vec<String>, Fail> {
     let mut words = Vec::new(alloc);
     for word in text.split_whitespace() {
         words.push(String::from_str(alloc, word)?)?;
@@ -63,12 +63,12 @@ fn served(alloc: Global, text: &str, bytes: &[u8]) -> Result<(Status, Vec<u8>), 
     Ok((status, Vec::from_slice(alloc, out.written())?))
 }
 
-const OVERTAKING: &str = "channel T(int);
+pub const OVERTAKING: &str = "channel T(int);
 one M { var x : int = 0; repeat Ws { recv T(x) from any w in Ws { } }
   repeat Ws { recv T(x) from any w in Ws { } } }
 many Ws { input v : int; send T(v) to M; send T(v) to M; }";
 
-const OVERTAKEN: &str = "overtaken
+pub const OVERTAKEN: &str = "overtaken
 brisk schedule 1
 size Ws 2
 input Ws[0].v = 0
@@ -179,7 +179,17 @@ end
 
 #[test]
 fn other_words_are_usage(rt: HostRuntime) -> Result<(), Fail> {
-    for text in ["", "rewrite", "frob x", "rewrite F F", "--help"] {
+    for text in [
+        "",
+        "rewrite",
+        "frob x",
+        "rewrite F F",
+        "derive",
+        "derive F F",
+        "check F F",
+        "check F F F F",
+        "--help",
+    ] {
         let (status, written) = served(rt.alloc(), text, b"")?;
         assert_eq!(rt; status, Status::Usage, "of {text}");
         assert_eq!(rt; written.as_slice(), b"usage\n".as_slice());

@@ -1,4 +1,3 @@
-use Rattle.std.proofs.Common.{Ok}
 use Rattle.std.proofs.lemmas.Result.{err_from_is_err_and}
 use Rattle.brisk_cli.specs.Answers.{source_limit}
 use Rattle.brisk_cli.specs.Rewriting.{OfRewriting}
@@ -20,7 +19,7 @@ returns-in_err-program-clause-told g c =
 
 pub returns-clause-told : goal.returns-clause-told
 returns-clause-told g c =
-    next_answered source_limit c.args.name.now sources (λ f failed. OfRewriting) (g.F.Folder.files c.args.folder.now) (g.F.Folder.faults c.args.folder.now) (g.F.Folder.faults c.file.new.folder) (Ok c.in_ok-rewritten.field-0) c.in_ok-bytes.bytes.items c.deref.result.now c.in_ok-program.program c.in_ok-bytes.ensures.few c.deref.ensures.value c.in_ok-bytes.ensures.whole c.in_ok-program.ensures.holds (λ f. c.in_ok-rewritten.ensures)
+    next_answered source_limit c.args.name.now sources (λ f failed. OfRewriting) (g.F.Folder.files c.args.folder.now) (g.F.Folder.faults c.args.folder.now) (g.F.Folder.faults c.file.new.folder) c.rewritten.result c.in_ok-bytes.bytes.items c.deref.result.now c.in_ok-program.program c.in_ok-bytes.ensures.few c.deref.ensures.value c.in_ok-bytes.ensures.whole c.in_ok-program.ensures.holds (λ f. c.rewritten.ensures)
 
 pub rewritten-requires : goal.rewritten-requires
 rewritten-requires g c =

@@ -5,7 +5,7 @@ use Rattle.brisk_async.specs.PlainRuns.{Deadlocks}
 use Rattle.brisk_schedule.specs.declared.schedule.Schedule.{Schedule}
 use Rattle.brisk_trace.specs.Plain.{IsPlainSchedule}
 use Rattle.brisk_cli.specs.Rewriting.{NeverDeadlocks}
-use Rattle.brisk_cli.proofs.rewritten.refused.Goals as goal
+use Rattle.brisk_cli.proofs.sequenced.refused.Goals as goal
 
 pub returns-in_ok-answer-in-Some : goal.returns-in_ok-answer-in-Some
 returns-in_ok-answer-in-Some c =

@@ -275,3 +275,29 @@ fn all_files_are_read_before_the_derivation_is_judged(rt: HostRuntime) -> Result
     }
     Ok(())
 }
+
+#[test]
+fn a_sequential_text_and_a_derivation_have_at_most_16777216_bytes(
+    rt: HostRuntime,
+) -> Result<(), Fail> {
+    let alloc = rt.alloc();
+    let mut text = String::new(alloc);
+    for _ in 0..1_048_576 {
+        text.push_str("no step, no end\n")?;
+    }
+    let longest = text.as_str();
+    let (status, written) = answered(alloc, "check F S D", ["", longest, longest])?;
+    assert_eq!(rt; status, Status::BadInput);
+    assert_eq!(rt; written.as_slice(), b"derivation Line 1\n".as_slice());
+    text.push_str(" ")?;
+    let longer = text.as_str();
+    for (sequential, derivation, expected) in [
+        (longer, longer, "file S TooLong\n"),
+        ("", longer, "file D TooLong\n"),
+    ] {
+        let (status, written) = answered(alloc, "check F S D", ["", sequential, derivation])?;
+        assert_eq!(rt; status, Status::BadInput);
+        assert_eq!(rt; written.as_slice(), expected.as_bytes());
+    }
+    Ok(())
+}

@@ -1,5 +1,6 @@
 pub mod Headline
 pub mod Ordered
 pub mod Pieces
+pub mod Refusals
 pub mod Stages
 pub mod Unbegun

@@ -32,17 +32,17 @@ use Rattle.brisk_cli.specs.Rewriting.{OfRewriting}
 use Rattle.brisk_sound.proofs.Top.{sound}
 
 -- the bytes hold a well-typed program, of which this holds
-pub record Source (bytes : Text) (next : Program → Type 0) : Type 0 where
+pub record Source (bytes : Text) (rule : Program → Type 0) : Type 0 where
   pub cut : List Placed
   pub cuts : tokens bytes ≡ Ok cut
   pub program : Program
   pub holds : Denotes cut program
   pub typed : IsProgramWellTyped program
-  pub next : next program
+  pub next : rule program
 
 -- where success is answered for the bytes of a source, it is what follows for the program that they hold
 module _ (bytes text : Text) (next : Program → Status → Text → Type 0) where
-  Follows : Program → Type 0
+  abbrev pub Follows : Program → Type 0
   Follows P = next P Done text
 
   module _ (end : ℕ) (ts : List Placed) (cuts : tokens bytes ≡ Ok ts) where
@@ -101,11 +101,11 @@ not_different : (a b : Text) → differs_at a b ≡ None → a ≡ b
 not_different [] [] h = refl
 not_different [] (y ∷ b) h = cc
 not_different (x ∷ a) [] h = cc
-not_different (x ∷ a) (y ∷ b) h = by (x == y) refl h
+not_different (x ∷ a) (y ∷ b) h = by (x == y) refl (not_different a b) h
   where
-    by : (same : Bool) → (x == y) ≡ same → (if same then option_map suc (differs_at a b) else Some 0) ≡ None → x ∷ a ≡ y ∷ b
-    by true e k = ap (λ z. z ∷ a) (eqb-true x y e) ∙ ap (λ z. y ∷ z) (not_different a b (none_of (differs_at a b) k))
-    by false e k = cc
+    by : (same : Bool) → (x == y) ≡ same → (differs_at a b ≡ None → a ≡ b) → (if same then option_map suc (differs_at a b) else Some 0) ≡ None → x ∷ a ≡ y ∷ b
+    by true e so k = ap (λ z. z ∷ a) (eqb-true x y e) ∙ ap (λ z. y ∷ z) (so (none_of (differs_at a b) k))
+    by false e so k = cc
 
 -- a derivation that is taken is valid, and has the sequential program of this text
 compared_well : (place : Option ℕ) (text : Text) → OfVerdict (compared place) Done text → place ≡ None
@@ -123,10 +123,10 @@ taken P seq bytes text (inr h) =
     (h.derivation, x.0, x.1, x.2)
 
 module _ (files : Files) (g h text : Text) (failed : Option ℕ) where
-  OfThird : Program → Text → Status → Text → Type 0
+  abbrev OfThird : Program → Text → Status → Text → Type 0
   OfThird P seq = OfFile sequential_limit h (files h) (is_failed 2 failed) (OfDerivation P seq)
 
-  OfSecond : Program → Status → Text → Type 0
+  abbrev OfSecond : Program → Status → Text → Type 0
   OfSecond P = OfFile sequential_limit g (files g) (is_failed 1 failed) (OfThird P)
 
   of_check : (f : Text) → OfCheck f g h files failed Done text → IsConfirmed files f g

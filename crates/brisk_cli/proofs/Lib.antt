@@ -1,6 +1,5 @@
 pub mod Headline
 pub mod Ordered
 pub mod Pieces
-pub mod Refusals
 pub mod Stages
 pub mod Unbegun

@@ -1,5 +1,5 @@
 -- What is answered for a program that is to be rewritten, or whose derivation is asked for.
-use Rattle.std.specs.Prelude.{◌≡◌, ◌⊎◌, ℕ, ◌+◌, ◌*◌, ◌^◌, ◌-◌, ◌++◌, min, Bool, true, false, codes}
+use Rattle.std.specs.Prelude.{◌≡◌, ◌⊎◌, ℕ, ◌+◌, ◌*◌, ◌^◌, ◌-◌, ◌++◌, min, true, codes}
 use Rattle.brisk_instance.specs.Given.{instance_of}
 use Rattle.brisk_syntax.specs.declared.program.Program.{Program}
 use Rattle.brisk_syntax.specs.Classes.{is_star}

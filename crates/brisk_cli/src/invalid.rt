@@ -1,7 +1,6 @@
 //! The line of a derivation that isn't valid.
 ghost use Rattle.std.specs.Prelude.{◌≡◌, ◌++◌, IfOk, OnOk, Some};
 ghost use Rattle.brisk_report.specs.Printing.{fault_text};
-ghost use Rattle.brisk_report.specs.Lines.{word};
 ghost use Rattle.brisk_cli.specs.Lines.{invalid_line, rule_text, why_text};
 
 use crate::answer::Answer;
@@ -28,12 +27,11 @@ fn rule_name(fault: RuleFault) -> Result<&'static str, NoMemory>
     }
 }
 
-// Writes the name of a test, and that of the thread.
+// Writes the name of a test and that of the thread.
 fn put_with(out: &mut Vec<u8>, test: &[u8], thread: Name) -> Result<(), NoMemory>
-    ensures { OnOk result (out.new.items ≡ out.old.items ++ (test.now ++ word thread)) }
+    ensures { OnOk result (out.new.items ≡ out.old.items ++ (test.now ++ thread)) }
 {
     put(out, test)?;
-    put(out, b" ")?;
     put(out, thread.bytes())
 }
 
@@ -45,14 +43,14 @@ fn put_side(out: &mut Vec<u8>, fault: SideFault) -> Result<(), NoMemory>
         SideFault::TooDeep => put(out, b"TooDeep"),
         SideFault::SetIsFocused => put(out, b"SetIsFocused"),
         SideFault::MayBeEmpty => put(out, b"MayBeEmpty"),
-        SideFault::OwnerUnfinished(thread) => put_with(out, b"OwnerUnfinished", thread),
-        SideFault::NotRestored(thread) => put_with(out, b"NotRestored", thread),
+        SideFault::OwnerUnfinished(thread) => put_with(out, b"OwnerUnfinished ", thread),
+        SideFault::NotRestored(thread) => put_with(out, b"NotRestored ", thread),
         SideFault::MailChanged => put(out, b"MailChanged"),
         SideFault::FactLost => put(out, b"FactLost"),
         SideFault::MailLeft => put(out, b"MailLeft"),
         SideFault::NotQuiet => put(out, b"NotQuiet"),
         SideFault::BranchesDiffer => put(out, b"BranchesDiffer"),
-        SideFault::Unfinished(thread) => put_with(out, b"Unfinished", thread),
+        SideFault::Unfinished(thread) => put_with(out, b"Unfinished ", thread),
         SideFault::ManyPending => put(out, b"ManyPending"),
         SideFault::SenderNotQuiet => put(out, b"SenderNotQuiet"),
     }

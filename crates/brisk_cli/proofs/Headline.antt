@@ -28,7 +28,9 @@ use Rattle.brisk_cli.specs.Commands.{Check, Command, Rewrite, command_of}
 use Rattle.brisk_cli.specs.Files.{Put, Text}
 use Rattle.brisk_cli.specs.Headline.{Headline, IsConfirmed, IsFaithful, IsRewritten}
 use Rattle.brisk_cli.specs.Languages.{OfCut, OfReading, OfText, OfTokens, OfTree, OfTyping, sources}
-use Rattle.brisk_cli.specs.Rewriting.{OfRewriting}
+use Rattle.brisk_cli.specs.Rewriting.{OfRewriting, OfSearched, budget_of, search_of}
+use Rattle.brisk_search.specs.Searched.{Searched, Sequenced, Stuck, Spent}
+use Rattle.brisk_search.proofs.Valid.{sequenced_is_valid}
 use Rattle.brisk_sound.proofs.Top.{sound}
 
 -- the bytes hold a well-typed program, of which this holds
@@ -78,10 +80,17 @@ module _ (limit : ℕ) (name text : Text) (next : Text → Status → Text → T
 faithful_to : (source text : Text) → (P : Program) → IsProgramWellTyped P → (D : Steps) (Q : SeqProgram) → Valid P D Q → text ≡ layout.sequential Q → (cut : List Placed) → tokens source ≡ Ok cut → Denotes cut P → IsFaithful source text
 faithful_to source text P typed D Q valid is cut cuts holds = record { cut = cut; cuts = cuts; program = P; holds = holds; typed = typed; sequential = Q; is_layout = is; faithful = sound P D Q typed valid }
 
+-- where success is answered, the search came to a derivation, which is valid
+sequenced : (P : Program) (text : Text) (o : Searched) → search_of P ≡ o → OfSearched (λ D Q. layout.sequential Q) P o Done text → (D : Steps) × (Q : SeqProgram) × Valid P D Q × (text ≡ layout.sequential Q)
+sequenced P text (Sequenced D Q) is h = (D, Q, sequenced_is_valid P (budget_of P) D Q is, h.1)
+sequenced P text (Stuck R) is h = let e = h.0 in cc
+sequenced P text Spent is h = let e = h.0 in cc
+
 rewritten : (source text : Text) → OfText sources source OfRewriting Done text → IsFaithful source text
 rewritten source text h =
     let s = of_source source text OfRewriting h in
-    faithful_to source text s.program s.typed s.next.1.0 s.next.0 s.next.1.1 s.next.2 s.cut s.cuts s.holds
+    let (D, Q, valid, is) = sequenced s.program text (search_of s.program) refl s.next in
+    faithful_to source text s.program s.typed D Q valid is s.cut s.cuts s.holds
 
 module _ (files : Files) (old new : Option Text) (text : Text) (failed : Option ℕ) (wrote : Put old new text) where
   of_rewrite : (f : Text) → OfRewrite f files failed Done text → IsRewritten files old new f

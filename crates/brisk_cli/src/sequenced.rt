@@ -1,15 +1,17 @@
 //! The derivation of a well-typed program, or why there is none.
 ghost use Rattle.std.specs.Prelude.{◌≡◌, ◌++◌, true, IfErr, IfOk};
-ghost use Rattle.brisk_rules.specs.Derives.{Valid};
+ghost use Rattle.std.specs.Option.{option_copied};
 ghost use Rattle.brisk_schedule.specs.Texts.{schedule_text};
 ghost use Rattle.brisk_syntax.specs.Typing.{each_has_tag};
 ghost use Rattle.brisk_syntax.specs.WellTyped.{IsProgramWellTyped, is_program_unbegun};
 ghost use Rattle.brisk_cli.specs.Answers.{IsTold};
-ghost use Rattle.brisk_cli.specs.Rewriting.{IsRefusal, OfRefusal, OfStandstill, OfUnsequenced, budget_of};
+ghost use Rattle.brisk_cli.specs.Rewriting.{IsUnsequenced, OfRefusal, OfStandstill, budget_of, last_text, search_of};
+ghost use Rattle.brisk_search.specs.Searched.{Sequenced};
 
 use crate::answer::{Answer, Stopped};
 use crate::status::Status;
-use brisk_derivation::Steps;
+use brisk_derivation::{Report, Steps};
+use brisk_report::print_report;
 use brisk_schedule::{Schedule, write};
 use brisk_search::{Outcome, search};
 use brisk_seq::SeqProgram;
@@ -28,17 +30,17 @@ pub fn sequenced(alloc: Global, program: &Program) -> Result<(Steps, SeqProgram)
     requires typed { IsProgramWellTyped program.now }
     requires unbegun { is_program_unbegun program.now ≡ true }
     requires tagged { each_has_tag program.now.enums ≡ true }
-    ensures valid { IfOk result (λ r. Valid program.now r.0 r.1) }
-    ensures told { IfErr result (IsTold (IsRefusal program.now)) }
+    ensures found { IfOk result (λ r. search_of program.now ≡ Sequenced r.0 r.1) }
+    ensures told { IfErr result (IsTold (IsUnsequenced program.now)) }
 {
     match search(alloc, program, budget(program))? {
         Outcome::Sequenced(steps, sequential) => Ok((steps, sequential)),
-        Outcome::Stuck(_) => {
-            let answer = refused(alloc, program, false)?;
+        Outcome::Stuck(report) => {
+            let answer = refused(alloc, program, Some(&report))?;
             Err(Stopped::Told(answer))
         }
         Outcome::Budget(_) => {
-            let answer = refused(alloc, program, true)?;
+            let answer = refused(alloc, program, None)?;
             Err(Stopped::Told(answer))
         }
     }
@@ -53,12 +55,12 @@ fn budget(program: &Program) -> u64
         .saturating_add(LEAST_BUDGET)
 }
 
-// Why a program isn't rewritten, where the search came to no derivation; it may have spent its budget.
-fn refused(alloc: Global, program: &Program, is_spent: bool) -> Result<Answer, NoMemory>
+// Why a program isn't rewritten, where the search is stuck with a report, or has spent its budget.
+fn refused(alloc: Global, program: &Program, report: Option<&Report>) -> Result<Answer, NoMemory>
     requires typed { IsProgramWellTyped program.now }
     requires unbegun { is_program_unbegun program.now ≡ true }
     requires tagged { each_has_tag program.now.enums ≡ true }
-    ensures { IfOk result (λ a. (a.status ≡ Status.Refused) × OfRefusal program.now a.text.items) }
+    ensures { IfOk result (λ a. OfRefusal program.now (last_text program.now (option_copied report.entry)) a.status a.text.items) }
 {
     match to_deadlock(alloc, program)? {
         Some(schedule) => {
@@ -66,21 +68,25 @@ fn refused(alloc: Global, program: &Program, is_spent: bool) -> Result<Answer, N
             Ok(answer)
         }
         None => {
-            let answer = not_deadlocked(alloc, program, is_spent)?;
+            let answer = not_deadlocked(alloc, program, report)?;
             Ok(answer)
         }
     }
 }
 
 // The same where the plain run at size one doesn't deadlock.
-fn not_deadlocked(alloc: Global, program: &Program, is_spent: bool) -> Result<Answer, NoMemory>
+fn not_deadlocked(
+    alloc: Global,
+    program: &Program,
+    report: Option<&Report>,
+) -> Result<Answer, NoMemory>
     requires typed { IsProgramWellTyped program.now }
     requires unbegun { is_program_unbegun program.now ≡ true }
     requires tagged { each_has_tag program.now.enums ≡ true }
-    ensures { IfOk result (λ a. (a.status ≡ Status.Refused) × OfStandstill program.now a.text.items) }
+    ensures { IfOk result (λ a. (a.status ≡ Status.Refused) × OfStandstill program.now (last_text program.now (option_copied report.entry)) a.text.items) }
 {
     if !is_star(program) {
-        let answer = unsequenced(alloc, program, is_spent)?;
+        let answer = unsequenced(alloc, program, report)?;
         return Ok(answer);
     }
     match to_overtaking(alloc, program)? {
@@ -89,20 +95,27 @@ fn not_deadlocked(alloc: Global, program: &Program, is_spent: bool) -> Result<An
             Ok(answer)
         }
         None => {
-            let answer = unsequenced(alloc, program, is_spent)?;
+            let answer = unsequenced(alloc, program, report)?;
             Ok(answer)
         }
     }
 }
 
-// The search came to no derivation, and nothing else is known.
-fn unsequenced(alloc: Global, program: &Program, is_spent: bool) -> Result<Answer, NoMemory>
-    ensures { IfOk result (λ a. (a.status ≡ Status.Refused) × OfUnsequenced program.now a.text.items) }
+// What the search left, where neither plain run shows more.
+fn unsequenced(
+    alloc: Global,
+    program: &Program,
+    report: Option<&Report>,
+) -> Result<Answer, NoMemory>
+    requires { IsProgramWellTyped program.now }
+    ensures { IfOk result (λ a. (a.status ≡ Status.Refused) × (a.text.items ≡ last_text program.now (option_copied report.entry))) }
 {
-    if is_spent {
-        Answer::counted(alloc, Status::Refused, "budget", budget(program))
-    } else {
-        Answer::new(alloc, Status::Refused, b"not sequenced\n")
+    match report {
+        None => Answer::counted(alloc, Status::Refused, "budget", budget(program)),
+        Some(report) => Ok(Answer {
+            status: Status::Refused,
+            text: print_report(alloc, program, report)?,
+        }),
     }
 }
 

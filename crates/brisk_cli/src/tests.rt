@@ -106,7 +106,7 @@ fn each_source_has_its_answer(rt: HostRuntime) -> Result<(), Fail> {
         (
             "channel T(int); one M { for u in Ws { for v in Ws { send T(1) to v; } } } many Ws { }",
             Status::Refused,
-            "not sequenced\n",
+            "leftover\nleft M: for u in Ws {\nreport\nstuck\ntry for Ws by M drop\nstuck\ntry for Ws by M drop\nfails SetIsFocused\ndone\ndone\n",
         ),
         ("one A { x := ; $", Status::BadInput, "source BadChar 15\n"),
         ("one A {", Status::BadInput, "source SyntaxFault 7\n"),

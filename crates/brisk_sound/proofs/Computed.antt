@@ -1,7 +1,6 @@
 -- The small programs, computed.
 use Rattle.std.proofs.Common.{◌≡◌, ℕ, Bool, true, false, List, [], ◌∷◌, Option, Some, None, refl, sym, ap, ◌∙◌, subst, arith}
 use Rattle.std.specs.Int.{int_wrap}
-use Rattle.std.specs.List.{AllByRecursion}
 use Rattle.std.specs.Prelude.{◌&&◌, negsuc, Ok, option_map, option_and_then, unwrap_or, if◌then◌else◌, nat_lt}
 use Rattle.std.proofs.lemmas.Bool.{le-ltb}
 use Rattle.std.proofs.lemmas.Option.{same_Some}
@@ -11,15 +10,15 @@ use Rattle.brisk_values.specs.declared.value.Value.TheVariants as value
 use Rattle.brisk_values.specs.Names.{Name, same_name, same_process, single}
 use Rattle.brisk_syntax.specs.declared.tree.Who.TheVariants as who
 use Rattle.brisk_syntax.specs.Declarations.{code_in, is_loose}
-use Rattle.brisk_syntax.specs.Instance.{Instance, processes, role_of}
-use Rattle.brisk_syntax.specs.Roles.{RoleText}
+use Rattle.brisk_syntax.specs.Instance.{role_of}
 use Rattle.brisk_syntax.specs.Substitution.{code_with}
 use Rattle.brisk_syntax.specs.Syntax.{Recv, RecvAny, Code, done, ◌⨾◌, ◌then◌}
 use Rattle.brisk_async.specs.Machine.{State, Queue, queue, partner, payload_at, receives, takes, place_of, effect, seen_by, after, start, run, IsHalted, IsTerminal}
 use Rattle.brisk_async.specs.PlainRuns.{plain_instance, Deadlocks}
-use Rattle.brisk_async.proofs.Members.{role_cases, no_other}
+use Rattle.brisk_async.proofs.Members.{role_cases}
 use Rattle.brisk_sound.specs.Samples.{A, B, M, ping_pong, ping_pong_in_order, crossed, maybe_empty_server}
 use Rattle.brisk_sound.specs.Examples.{Examples, values_after, values_in_order, all_inputs, greatest, whole, round_trip, ping_pong_places, of_one}
+use Rattle.brisk_sound.proofs.Unfaithful.{gone, not_single, unfaithful}
 use Rattle.std.proofs.Math.Bool.{and-false}
 
 wraps : values_after ping_pong (all_inputs greatest) round_trip ping_pong_places ≡ Some (whole greatest ∷ Some (value.Int (negsuc greatest)) ∷ whole greatest ∷ [])
@@ -59,15 +58,6 @@ blocked s p (RecvAny c xs v set b ⨾ rest) empty (Some w) place =
     ap (λ t. if t then receives (seen_by s p) (queue w p c) xs (code_with v (who.Pid w) b then rest) place else None)
     (ap (λ n. same_name set w.role && nat_lt w.member n) empty ∙ ap (λ t. same_name set w.role && t) (le-ltb w.member 0 (omega arith)) ∙ and-false (same_name set w.role))
 blocked s p (x ⨾ rest) h sender place = absurd h
-
--- where a role has no process but p, the others are without code
-gone : (roles : List RoleText) (i : Instance) (p : Pid) →
-    AllByRecursion (λ r. same_name p.role r.name ≡ true → nat_lt p.member (processes i r) ≡ true → ⊥) roles → code_in (role_of roles i p) ≡ done
-gone roles i p none =
-    role_cases i p (λ r. same_name p.role r.name ≡ true → nat_lt p.member (processes i r) ≡ true → ⊥) (λ o. code_in o ≡ done) roles refl none (λ r h e g. absurd (h e g))
-
-not_single : (a : Name) (p : Pid) → same_process (single a) p ≡ false → same_name p.role a ≡ true → nat_lt p.member 1 ≡ true → ⊥
-not_single a p apart e h = let g = sym h ∙ no_other a p apart e in cc
 
 not_in_empty : (k : ℕ) → nat_lt k 0 ≡ true → ⊥
 not_in_empty k h = let g = sym h ∙ le-ltb k 0 (omega arith) in cc
@@ -131,6 +121,7 @@ computed = record {
   collect_second_first = refl;
   collect_first_first = refl;
   collect_by_choices = refl;
+  collect_by_number_unfaithful = unfaithful;
   empty_server = refl;
   empty_server_deadlocks = empty_server_deadlocks;
 }

@@ -53,5 +53,6 @@ pub mod Tampered
 pub mod Top
 pub mod Turning
 pub mod Typed
+pub mod Unfaithful
 pub mod Unfolds
 pub mod Walks

@@ -12,7 +12,8 @@ use Rattle.brisk_seq.specs.Sequential.{Stop, BadChoice, ChoicesLeft, seq}
 use Rattle.brisk_async.specs.declared.event.Event.{Event}
 use Rattle.brisk_async.specs.Machine.{State, start, run, IsHalted}
 use Rattle.brisk_async.specs.PlainRuns.{plain_instance, plain_schedule, Deadlocks}
-use Rattle.brisk_sound.specs.Samples.{A, B, M, Ws, n, r, x, y, k, last, ping_pong, ping_pong_in_order, two_messages, two_messages_loose, crossed, collect, collect_in_order, maybe_empty_server}
+use Rattle.brisk_rules.specs.Faithful.{Faithful}
+use Rattle.brisk_sound.specs.Samples.{A, B, M, Ws, n, r, x, y, k, last, ping_pong, ping_pong_in_order, two_messages, two_messages_loose, crossed, collect, collect_by_number, collect_in_order, maybe_empty_server}
 
 -- a variable of a process
 abbrev pub Place : Type 0
@@ -117,6 +118,8 @@ pub record Examples : Type 0 where
       ≡ Some (whole 20 ∷ whole 20 ∷ [])
   pub collect_by_choices : collect_on ((1 ∷ 0 ∷ []) ∷ (0 ∷ 1 ∷ []) ∷ (1 ∷ 1 ∷ []) ∷ (1 ∷ []) ∷ (1 ∷ 0 ∷ 0 ∷ []) ∷ [])
       ≡ Ok (whole 10 ∷ whole 10 ∷ []) ∷ Ok (whole 20 ∷ whole 20 ∷ []) ∷ Err (BadChoice 2) ∷ Err (BadChoice 2) ∷ Err ChoicesLeft ∷ []
+  -- a loop by the members' numbers isn't faithful: it keeps the last member's value alone
+  pub collect_by_number_unfaithful : Faithful collect collect_by_number → ⊥
   -- a task is offered in vain where the set has no member
   pub empty_server : values_after maybe_empty_server (all_inputs 1) (of_one M ∷ []) ((single M, n) ∷ (single M, k) ∷ [])
       ≡ Some (whole 1 ∷ whole 0 ∷ [])

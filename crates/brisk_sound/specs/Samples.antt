@@ -13,7 +13,7 @@ use Rattle.brisk_syntax.specs.declared.tree.Who.TheVariants as who
 use Rattle.brisk_syntax.specs.Roles.{RoleText}
 use Rattle.brisk_syntax.specs.Syntax.{Num, Truth, Var, Bin, Assign, Send, Recv, RecvAny, While, Repeat, Code, done, ◌⨾◌}
 use Rattle.brisk_seq.specs.declared.tree.SeqProgram.{SeqProgram}
-use Rattle.brisk_seq.specs.Items.{Pass, ForAny, nothing, ◌⨟◌}
+use Rattle.brisk_seq.specs.Items.{Pass, For, ForAny, nothing, ◌⨟◌}
 
 -- the names of roles, channels and variables
 abbrev pub A : Name
@@ -159,6 +159,12 @@ collect_in_order = record {
   enums = [];
   roles = one M (zero_at x ∷ zero_at last ∷ []) done ∷ many Ws (input v ∷ []) done ∷ [];
   body = ForAny Ws (Pass M (x ∷ []) Ws (Var v ∷ []) ⨟ Pass M (last ∷ []) M (Var x ∷ []) ⨟ nothing) ⨟ nothing;
+}
+
+-- the same with the members by their numbers
+abbrev pub collect_by_number : SeqProgram
+collect_by_number = record collect_in_order {
+  body = For Ws (Pass M (x ∷ []) Ws (Var v ∷ []) ⨟ Pass M (last ∷ []) M (Var x ∷ []) ⨟ nothing) ⨟ nothing;
 }
 
 -- M hands out n tasks to members that ask, and then tells each member to stop; the set may be empty

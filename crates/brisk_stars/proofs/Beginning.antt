@@ -51,7 +51,7 @@ module _ (P : Program) (r : RoleText) (source : IsStarSource P) (centre : IsCent
   abbrev s : State
   s = plain_start P 1
 
-  code_is : (u : Name) → at_in (initial P) u ≡ s.code (single u)
+  pub code_is : (u : Name) → at_in (initial P) u ≡ s.code (single u)
   code_is u = first_code P u ∙ sym (one_process P (role_named P.roles u))
 
   star : IsStarState r.name (plain_start P 1)
@@ -91,7 +91,7 @@ module _ (P : Program) (r : RoleText) (source : IsStarSource P) (centre : IsCent
     there = λ u h. let t = there (role_named P.roles u) h in (t.0, first_mode P u ∙ t.1);
   }
 
-  member_is : (p : Pid) → members_by r.name (at_in (initial P)) (numbers_at []) p ≡ members_in r.name s p
+  pub member_is : (p : Pid) → members_by r.name (at_in (initial P)) (numbers_at []) p ≡ members_in r.name s p
   member_is p =
       elim (same_name r.name p.role) as (λ b. (if b then nobody else (if nat_eq 0 p.member then member_by r.name (at_in (initial P)) (numbers_at []) p.role else nobody))
       ≡ (if b then nobody else record { left = messages (s.code p); up = λ c. 0; down = λ c. 0 })) [

@@ -32,6 +32,7 @@ use Rattle.brisk_stars.specs.Serving.{Served, Word, hears, followed, settled, me
 use Rattle.brisk_stars.specs.Threads.{at_in, members_by, served_by, served_at, IsStarThreads, IsCentresLoop, LocalStepsKeepServing, ForsAreEntered, GathersAreEntered, PremisesSayATurn, ClosesKeepServing}
 use Rattle.brisk_stars.specs.Words.{in_turns, is_focus, is_other, runs_as_centre, serves, words, words_to}
 use Rattle.brisk_stars.proofs.Basics.{to_code, unbegun_one}
+use Rattle.brisk_stars.proofs.Mapped.{for_fewer, for_shallow, gather_fewer, gather_shallow}
 use Rattle.brisk_stars.proofs.Keeping.{messages_then}
 use Rattle.brisk_stars.proofs.Running.{local_then, local_mapped, named_with, body_says, body_runs, serves_parts}
 use Rattle.brisk_stars.proofs.Serving.{served_alike, serving_appends, settled_once}
@@ -98,7 +99,7 @@ module _ (sizes : Name → ℕ) (M s : Name) (other : same_name M s ≡ false) (
   all_codes = codes_with_code M k (with_mode s m S.threads) One centre_mode ∙ ap (λ f. changed same_name f M k) (codes_with_mode s m S.threads)
 
   -- where the centre goes on, and the mode of a set is another
-  goes_over : (E : Symbolic) → E.threads ≡ changed_threads → IsStarThreads sizes M E
+  pub goes_over : (E : Symbolic) → E.threads ≡ changed_threads → IsStarThreads sizes M E
   goes_over E threads =
       let code = ap codes threads ∙ all_codes in
       let mode = ap modes threads ∙ modes_with_code M k (with_mode s m S.threads) in
@@ -270,6 +271,9 @@ fors_are_entered sizes M s S r drops st e =
     record {
       body = code_with v (who.At s) b;
       rest = y.0.rest;
+      behind = (For v s 0 b, code);
+      fewer = for_fewer (at_in S M) v s b y.0.rest code;
+      shallow = for_shallow (at_in S M) v s b y.0.rest code;
       owners = ap (λ (z : Entered). z.owners) (sym is) ∙ ap (with_rests (M ∷ [])) (sym ls);
       looks = ap (λ (z : Entered). (rules.looks z.kind)) (sym is);
       threads = ap (λ (z : Entered). z.start.threads) (sym is) ∙ ap (λ l. at_bodies (M ∷ []) l (with_mode s At S.threads)) (sym ls) ∙ ap (λ k. with_code M k (with_mode s At S.threads)) f.3;
@@ -310,6 +314,9 @@ gather_parts sizes M S r drops st e =
       loop = record {
         body = from_focus a;
         rest = a.rest;
+        behind = (Repeat s 0 (RecvAny a.channel a.variables a.binder s a.body ⨾ done), code);
+        fewer = gather_fewer (at_in S M) a code;
+        shallow = gather_shallow (at_in S M) a code;
         owners = ap (λ (z : Entered). z.owners) (sym is);
         looks = ap (λ (z : Entered). (rules.looks z.kind)) (sym is);
         threads = ap (λ (z : Entered). z.start.threads) (sym is);

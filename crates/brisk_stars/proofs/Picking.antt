@@ -40,6 +40,7 @@ use Rattle.brisk_stars.specs.Serving.{Served, hears, messages, serve, settled}
 use Rattle.brisk_stars.specs.Threads.{IsCentresLoop, IsStarThreads, at_in, member_by, members_by, served_at}
 use Rattle.brisk_stars.specs.Words.{is_focus, is_other, runs_as_centre, serves, turn_before, words, words_to}
 use Rattle.brisk_stars.proofs.Hearing.{hearing_takes, settling}
+use Rattle.brisk_stars.proofs.Mapped.{any_fewer, any_shallow}
 use Rattle.brisk_stars.proofs.Loops.{all_codes, body_focused, body_unbegun, focused_runs, focused_says, unfocused_ok}
 use Rattle.brisk_stars.proofs.Outside.{Still, blanked}
 use Rattle.brisk_stars.proofs.Premises.{premise_starts, rounds_end}
@@ -76,6 +77,9 @@ pick_parts P sizes M S r drops st e =
       loop = record {
         body = from_focus a;
         rest = a.rest;
+        behind = (RecvAny a.channel a.variables a.binder s a.body, code);
+        fewer = any_fewer (at_in S M) a code;
+        shallow = any_shallow (at_in S M) a code;
         owners = ap (λ (z : Entered). z.owners) (sym is);
         looks = refl;
         threads = ap (λ (z : Entered). z.start.threads) (sym is);

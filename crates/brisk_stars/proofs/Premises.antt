@@ -44,15 +44,16 @@ use Rattle.brisk_stars.specs.Serving.{Member, Served, hears, heard, takes, if_no
 use Rattle.brisk_rules.proofs.Readings.{is_active as reads_active}
 use Rattle.brisk_stars.specs.Runs.{nobody}
 use Rattle.brisk_stars.specs.Threads.{at_in, member_by, members_by, served_at, IsCentresLoop, IsStarThreads}
-use Rattle.brisk_stars.specs.Searching.{IsAlone, IsRoomy, PremisesEnd}
+use Rattle.brisk_stars.specs.Searching.{IsAlone, IsRoomy, PremiseEnds, PremisesEnd}
 use Rattle.brisk_stars.proofs.Loops.{other_mode, premises_say_a_turn}
 use Rattle.brisk_stars.specs.Words.{is_focus, words}
 use Rattle.brisk_stars.proofs.Goals.{goal_is}
 use Rattle.brisk_stars.proofs.Outside.{Still, still_then}
+use Rattle.brisk_stars.proofs.Room.{HasRoom}
 use Rattle.brisk_stars.proofs.Turns.{InPremise, Steps, around, first_steps, take_applies, unless_err, to_focus, to_centre}
 
 -- who is asked of the threads but these
-asked : (these : List Name) (Q : Name → Type 0) (S : Symbolic) (t : Name) (c : Code) → is_among these t ≡ false → code_at S t ≡ Some c → AllByRecursion Q (others these S) → Q t
+pub asked : (these : List Name) (Q : Name → Type 0) (S : Symbolic) (t : Name) (c : Code) → is_among these t ≡ false → code_at S t ≡ Some c → AllByRecursion Q (others these S) → Q t
 asked these Q S t c free here all =
     one_named (λ v. is_movable S v ≡ true → not (is_among these v) ≡ true → Q v) S.threads t c here
     (kept_all (λ v. not (is_among these v) ≡ true → Q v) (is_movable S) (thread_names S) (kept_all Q (λ v. not (is_among these v)) (movable S) all)) (ap is_some here) (ap not free)
@@ -101,13 +102,13 @@ module _ (P : Program) (sizes : Name → ℕ) (M s : Name) (n depth most : ℕ) 
       at_head x here at t w = cc
 
   -- the member has no code, or waits for the centre
-  record MemberWaits (S : Symbolic) : Type 0 where
-    channel : Name
-    rest : Code
-    at : messages (at_in S s) ≡ takes channel ∷ messages rest
-    none : numbers_at S.pending (key M s channel) ≡ []
+  pub record MemberWaits (S : Symbolic) : Type 0 where
+    pub channel : Name
+    pub rest : Code
+    pub at : messages (at_in S s) ≡ takes channel ∷ messages rest
+    pub none : numbers_at S.pending (key M s channel) ≡ []
 
-  member_waits : (S : Symbolic) (x : Statement) (k : Code) → Premise S → code_at S s ≡ Some (x ⨾ k) → actor (around P sizes M s n depth most deep few strict F) (length S.threads) S [] s ≡ None → MemberWaits S
+  pub member_waits : (S : Symbolic) (x : Statement) (k : Code) → Premise S → code_at S s ≡ Some (x ⨾ k) → actor (around P sizes M s n depth most deep few strict F) (length S.threads) S [] s ≡ None → MemberWaits S
   member_waits S x k p here none =
       let w = nobody_acts (around P sizes M s n depth most deep few strict F) S s x k here none in
       let at = (moved S.threads s (x ⨾ k) here).stands in
@@ -243,7 +244,7 @@ module _ (P : Program) (sizes : Name → ℕ) (M s : Name) (n depth most : ℕ) 
         by later false e =
             elim (first_steps P sizes M s n depth most deep few strict F S (in_turn d S) p) [
               | inl x ↦
-                  let y : Steps P sizes M s n depth most deep few strict F S (round (around P sizes M s n depth most deep few strict F) d S [] None) = record { step = x.step; items = x.items; next = x.next; is = ap (where_it_stays stay) x.is; premise = x.premise; served = x.served; fewer = x.fewer; still = x.still } in
+                  let y : Steps P sizes M s n depth most deep few strict F S (round (around P sizes M s n depth most deep few strict F) d S [] None) = record { step = x.step; items = x.items; next = x.next; is = ap (where_it_stays stay) x.is; premise = x.premise; served = x.served; fewer = x.fewer; ended = x.ended; still = x.still } in
                   goes_on m S y (later x.next x.premise (let f = x.fewer in omega (arith, f, less)))
               | inr w ↦ record {
                 way = here S;
@@ -257,11 +258,11 @@ module _ (P : Program) (sizes : Name → ℕ) (M s : Name) (n depth most : ℕ) 
             ]
 
 -- the premise's start is a state of the premise
-pub premise_starts : (n : ℕ) (deep : 65 ≤ suc n) (few : 999999 < 1000000) (P : Program) (strict : IsStrict P) (F : Follow) (sizes : Name → ℕ) (M s : Name) (S : Symbolic) (r : Entered) → IsStarThreads sizes M S → IsAlone M S → (l : IsCentresLoop sizes M s S r) → IsRoomy r.start →
-    InPremise P sizes M s n 65 999999 deep few strict F r.start
-premise_starts n deep few P strict F sizes M s S r st alone l room = record {
+pub premise_begins : (n depth most : ℕ) (deep : depth ≤ suc n) (few : most < 1000000) (P : Program) (strict : IsStrict P) (F : Follow) (sizes : Name → ℕ) (M s : Name) (S : Symbolic) (r : Entered) → IsStarThreads sizes M S → IsAlone M S → (l : IsCentresLoop sizes M s S r) → HasRoom depth most r.start →
+    InPremise P sizes M s n depth most deep few strict F r.start
+premise_begins n depth most deep few P strict F sizes M s S r st alone l room = record {
   star = star;
-  room = record { apart = star.apart; used = room.used; uses = room.uses; few = (let f = room.few in omega (arith, f)); shallow = room.shallow };
+  room = room;
   body = ap (λ (f : Name → Code). every (talks_to (is_focus s)) (f M)) code ∙ ap (every (talks_to (is_focus s))) (changed-same name_laws (at_in S) M l.body) ∙ l.talks;
   focused = ap (λ (f : Name → Option Mode). f s) mode ∙ its_mode s;
   other = l.other;
@@ -285,22 +286,45 @@ premise_starts n deep few P strict F sizes M s S r st alone l room = record {
     its_mode : (u : Name) → modes (with_mode s At S.threads) s ≡ Some At
     its_mode u = let t = st.there s l.members in ap (λ (f : Name → Option Mode). f s) (modes_with_mode s At S.threads t.0 t.1) ∙ changed-same name_laws (modes S.threads) s (Some At)
 
+pub premise_starts : (n : ℕ) (deep : 65 ≤ suc n) (few : 999999 < 1000000) (P : Program) (strict : IsStrict P) (F : Follow) (sizes : Name → ℕ) (M s : Name) (S : Symbolic) (r : Entered) → IsStarThreads sizes M S → IsAlone M S → (l : IsCentresLoop sizes M s S r) → IsRoomy r.start →
+    InPremise P sizes M s n 65 999999 deep few strict F r.start
+premise_starts n deep few P strict F sizes M s S r st alone l room =
+    premise_begins n 65 999999 deep few P strict F sizes M s S r st alone l record {
+      apart = (premises_say_a_turn sizes M s S r st l).0.apart;
+      used = room.used;
+      uses = room.uses;
+      few = (let f = room.few in omega (arith, f));
+      shallow = room.shallow;
+    }
+
+-- how the drive of a premise ends, and that its end is a state of the premise
+pub record EndsInside (P : Program) (sizes : Name → ℕ) (M s : Name) (n depth most : ℕ) (deep : depth ≤ suc n) (few : most < 1000000) (strict : IsStrict P) (F : Follow) (r : Entered) : Type 0 where
+  pub ends : PremiseEnds P sizes M (suc n) F r
+  pub inside : InPremise P sizes M s n depth most deep few strict F ends.way.end
+
+pub ends_inside : (n depth most : ℕ) (deep : depth ≤ suc n) (few : most < 1000000) (P : Program) (strict : IsStrict P) (F : Follow) (sizes : Name → ℕ) (M s : Name) (S : Symbolic) (r : Entered) → (l : IsCentresLoop sizes M s S r) →
+    InPremise P sizes M s n depth most deep few strict F r.start → EndsInside P sizes M s n depth most deep few strict F r
+ends_inside n depth most deep few P strict F sizes M s S r l p =
+    let owned : owners_of r ≡ M ∷ [] = ap (map (λ (o : Owner). o.name)) l.owners in
+    let e = rounds_end P sizes M s n depth most deep few strict F r owned (enough None r.start) r.start p (let fuel = enough_is r.start p.room.apart in omega (arith, fuel)) in
+    record {
+      inside = e.premise;
+      ends = record {
+        way = e.way;
+        tries = e.tries;
+        is = e.is;
+        threads = e.premise.star;
+        served = e.served;
+        body = (
+          λ at. sym (ap (λ (t : Served). t.left) e.served) ∙ ap (λ c. (serve (words sizes c) (members_by M (at_in e.way.end) (numbers_at e.way.end.pending))).left) at,
+          λ none. is_said P sizes M s n depth most deep few strict F e.way.end (ap (λ (t : Served). t.left) e.served ∙ none) e.ends,
+        );
+        goal = λ at. goal_is M s r l.rest l.owners l.looks e.way.end at e.still;
+      };
+    }
+
 pub premises_end : PremisesEnd
 premises_end P strict F sizes M s S r st alone l room =
     let deep : 65 ≤ suc 254 = omega arith in
     let few : 999999 < 1000000 = omega arith in
-    let p = premise_starts 254 deep few P strict F sizes M s S r st alone l room in
-    let owned : owners_of r ≡ M ∷ [] = ap (map (λ (o : Owner). o.name)) l.owners in
-    let e = rounds_end P sizes M s 254 65 999999 deep few strict F r owned (enough None r.start) r.start p (let fuel = enough_is r.start p.room.apart in omega (arith, fuel)) in
-    record {
-      way = e.way;
-      tries = e.tries;
-      is = e.is;
-      threads = e.premise.star;
-      served = e.served;
-      body = (
-        λ at. sym (ap (λ (t : Served). t.left) e.served) ∙ ap (λ c. (serve (words sizes c) (members_by M (at_in e.way.end) (numbers_at e.way.end.pending))).left) at,
-        λ none. is_said P sizes M s 254 65 999999 deep few strict F e.way.end (ap (λ (t : Served). t.left) e.served ∙ none) e.ends,
-      );
-      goal = λ at. goal_is M s r l.rest l.owners l.looks e.way.end at e.still;
-    }
+    (ends_inside 254 65 999999 deep few P strict F sizes M s S r l (premise_starts 254 deep few P strict F sizes M s S r st alone l room)).ends

@@ -8,7 +8,7 @@ use Rattle.brisk_syntax.specs.declared.tree.Who.{Who}
 use Rattle.brisk_syntax.specs.Classes.{every, talks_to}
 use Rattle.brisk_syntax.specs.Counts.{statements_in, statements}
 use Rattle.brisk_syntax.specs.Depths.{code_depth}
-use Rattle.brisk_syntax.specs.Syntax.{Statement, Assign, Send, Recv, Code, ◌⨾◌, ◌then◌}
+use Rattle.brisk_syntax.specs.Syntax.{Statement, Assign, Send, Recv, Code, done, ◌⨾◌, ◌then◌}
 use Rattle.brisk_state.specs.declared.thread.Thread.{Thread}
 use Rattle.brisk_state.specs.Symbolic.{Symbolic, key, with_code, active_code, code_at, is_in_use, numbers_at}
 use Rattle.brisk_basic.specs.declared.rule.Basic.{Basic}
@@ -40,14 +40,15 @@ module _ (depth most : ℕ) where
     pub fewer : left_in E.threads + 1 ≤ left_in S.threads
     pub mode : modes E.threads ≡ modes S.threads
     pub talk : (test : Who → Bool) (u : Name) → every (talks_to test) (codes S.threads u) ≡ true → every (talks_to test) (codes E.threads u) ≡ true
+    pub ended : (u : Name) → codes S.threads u ≡ done → codes E.threads u ≡ done
 
   pub takes_then : (S E F : Symbolic) → Takes S E → Takes E F → Takes S F
-  takes_then S E F a b = record { room = b.room; fewer = (let g = a.fewer in let h = b.fewer in omega (arith, g, h)); mode = b.mode ∙ a.mode; talk = λ test u h. b.talk test u (a.talk test u h) }
+  takes_then S E F a b = record { room = b.room; fewer = (let g = a.fewer in let h = b.fewer in omega (arith, g, h)); mode = b.mode ∙ a.mode; talk = λ test u h. b.talk test u (a.talk test u h); ended = λ u h. b.ended u (a.ended u h) }
 
   pub depth_there : (S : Symbolic) (t : Name) (c : Code) → HasRoom S → code_at S t ≡ Some c → code_depth c ≤ depth
   depth_there S t c s e = let x = thread_at (λ (u : Thread). code_depth u.code ≤ depth) S.threads t c s.shallow e in subst (λ (k : Code). code_depth k ≤ depth) x.2 x.1
 
-  shallow_with : (t : Name) (k : Code) (ts : List Thread) → code_depth k ≤ depth → AllByRecursion (λ (u : Thread). code_depth u.code ≤ depth) ts → AllByRecursion (λ (u : Thread). code_depth u.code ≤ depth) (with_code t k ts)
+  pub shallow_with : (t : Name) (k : Code) (ts : List Thread) → code_depth k ≤ depth → AllByRecursion (λ (u : Thread). code_depth u.code ≤ depth) ts → AllByRecursion (λ (u : Thread). code_depth u.code ≤ depth) (with_code t k ts)
   shallow_with t k [] c all = tt
   shallow_with t k (u ∷ us) c all =
       (elim (same_name t u.name) as (λ b. code_depth (if b then record u { code = k } else u).code ≤ depth) [ true ↦ c | false ↦ all.0 ], shallow_with t k us c all.1)
@@ -76,6 +77,10 @@ module _ (depth most : ℕ) where
             ap (λ (f : Name → Code). every (talks_to test) (f u)) (ap codes threads ∙ codes_with_code t k S.threads moves.mode moves.there)
             ∙ changed_cases same_name (codes S.threads) t k u (λ z. every (talks_to test) z ≡ true)
             (λ same. behind test (ap (every (talks_to test)) (sym moves.stands ∙ ap (codes S.threads) (exact_name t u same)) ∙ h)) (λ other. h);
+        ended = λ u h.
+            ap (λ (f : Name → Code). f u) (ap codes threads ∙ codes_with_code t k S.threads moves.mode moves.there)
+            ∙ changed_cases same_name (codes S.threads) t k u (λ z. z ≡ done)
+            (λ same. absurd (let none = ap statements (sym moves.stands ∙ ap (codes S.threads) (exact_name t u same) ∙ h) in omega (arith, none, less))) (λ other. h);
       }
 
   pub alone_takes : (S E : Symbolic) (t : Name) (c k : Code) → HasRoom S → code_at S t ≡ Some c → code_depth k ≤ depth → statements k + 1 ≤ statements c → ((test : Who → Bool) → every (talks_to test) c ≡ true → every (talks_to test) k ≡ true) → E.threads ≡ with_code t k S.threads → E.pending ≡ S.pending → Takes S E

@@ -82,7 +82,7 @@ module _ (P : Program) (r : RoleText) (k : ℕ) (some : 0 < k) (source : IsStarS
   abbrev sizes : Name → ℕ
   sizes = set_sizes P.roles i
 
-  all_fit : list_all (fits_star M) P.roles ≡ true
+  pub all_fit : list_all (fits_star M) P.roles ≡ true
   all_fit = sym (ap (λ rs. is_star_round rs P.roles) centre) ∙ (both_true (has_no_loose P) (is_star_round (singles P.roles) P.roles) source.star).1
 
   pub found : (role_named P.roles M ≡ Some r) × (r.many ≡ false)

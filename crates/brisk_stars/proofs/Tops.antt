@@ -30,13 +30,13 @@ use Rattle.brisk_stars.proofs.Quietly.{nothing_is_left_over}
 use Rattle.brisk_stars.proofs.Nine.{nine_tries_go_or_stay}
 use Rattle.brisk_stars.proofs.Premises.{premises_end}
 
-same_reached : (v w : Way) → Reached v None ≡ Reached w None → v ≡ w
+pub same_reached : (v w : Way) → Reached v None ≡ Reached w None → v ≡ w
 same_reached v w e = cc
 
 same_stuck : (v w : Way) (t u : Tries) → Stuck v t None ≡ Stuck w u None → v ≡ w
 same_stuck v w t u e = cc
 
-never_both : (v w : Way) (t : Tries) → Reached v None ≡ Stuck w t None → ⊥
+pub never_both : (v w : Way) (t : Tries) → Reached v None ≡ Stuck w t None → ⊥
 never_both v w t e = cc
 
 -- what is left unsaid is left
@@ -56,7 +56,7 @@ module _ (P : Program) (strict : IsStrict P) (F : Follow) (sizes : Name → ℕ)
   ends : (drops : List Fact) (r : Entered) → rule.enter drops ≡ Ok r → PremiseEnds P sizes M 255 (rule.follows r) r
   ends drops r e = let l = the_loop drops r e in premises_end P strict (rule.follows r) sizes M l.0 S r st alone l.1 (roomy drops r e)
 
-  comes : ComesToEnds (driver P own_sides 255) rule
+  pub comes : ComesToEnds (driver P own_sides 255) rule
   comes drops r e =
       let x = ends drops r e in
       elim x.is [
@@ -89,7 +89,7 @@ module _ (P : Program) (strict : IsStrict P) (F : Follow) (sizes : Name → ℕ)
         | inr a ↦ let goal = x.goal at ∙ ap is_none none in let both = sym goal ∙ a.1 in cc
       ]
 
-  stays_on : NoTryCloses P (driver P own_sides 255) S rule → StaysAt P sizes M S rule
+  pub stays_on : NoTryCloses P (driver P own_sides 255) S rule → StaysAt P sizes M S rule
   stays_on (refused drops why e) = tops.refused drops why e
   stays_on (loses r w why e reached c) = tops.loses r w why e reached c
   stays_on (stuck drops r w tries e is_stuck) = by (at_in (ends drops r e).way.end M) refl

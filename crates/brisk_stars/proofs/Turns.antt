@@ -133,6 +133,7 @@ module _ (P : Program) (sizes : Name → ℕ) (M s : Name) (n depth most : ℕ) 
     pub premise : InPremise next
     pub served : served_at sizes M next ≡ served_at sizes M S
     pub fewer : left_in next.threads + 1 ≤ left_in S.threads
+    pub ended : (u : Name) → at_in S u ≡ done → at_in next u ≡ done
     pub still : Still M s S next
 
   premise_after : (S E : Symbolic) → InPremise S → IsStarThreads sizes M E → Takes depth most S E → InPremise E
@@ -250,7 +251,7 @@ module _ (P : Program) (sizes : Name → ℕ) (M s : Name) (n depth most : ℕ) 
       let e = quietly_ok P F S (rule_of b) r quiet in
       let keeps = basic_rules_keep_serving sizes M S (rule_of b) r p.star e in
       let takes = basic_takes depth most S (rule_of b) r p.room e (known_takes S r p) in
-      record { step = _; items = _; next = r.next; is = ap (λ o. applied b o [] None) quiet; premise = premise_after S r.next p keeps.0 takes; served = keeps.1; fewer = takes.fewer; still = basic_still M s S (who_it_is_at S p) (keyed S p) (rule_of b) r e }
+      record { step = _; items = _; next = r.next; is = ap (λ o. applied b o [] None) quiet; premise = premise_after S r.next p keeps.0 takes; served = keeps.1; fewer = takes.fewer; ended = takes.ended; still = basic_still M s S (who_it_is_at S p) (keyed S p) (rule_of b) r e }
 
   below : BelowComes around.below (suc n)
   below V S t a rest apart l less here = (driver P own_sides n, refl, side_comes P n V S t a rest apart l (omega (arith, less)) here)
@@ -267,17 +268,17 @@ module _ (P : Program) (sizes : Name → ℕ) (M s : Name) (n depth most : ℕ) 
       let m = statements_then y.after k in
       let takes = alone_takes depth most S y.next t (x ⨾ k) (y.after then k) p.room here (let a = y.shallow in omega (arith, d, e, a)) (let f = y.fewer in omega (arith, f, m))
       (λ test h. every_then test y.after k y.local (every_behind (talks_to test) (x ⨾ done) k h)) y.moves.threads y.moves.pending in
-      record { step = y.step; items = y.items; next = y.next; is = sym (advances around S t x k [] here waits) ∙ y.is; premise = premise_after S y.next p keeps.0 takes; served = keeps.1; fewer = takes.fewer; still = alone_still M s S (who_it_is_at S p) (keyed S p) y.next t (x ⨾ k) (y.after then k) here y.moves.threads y.moves.pending }
+      record { step = y.step; items = y.items; next = y.next; is = sym (advances around S t x k [] here waits) ∙ y.is; premise = premise_after S y.next p keeps.0 takes; served = keeps.1; fewer = takes.fewer; ended = takes.ended; still = alone_still M s S (who_it_is_at S p) (keyed S p) y.next t (x ⨾ k) (y.after then k) here y.moves.threads y.moves.pending }
 
   filled_steps : (S : Symbolic) (t u C : Name) (o : Option ℕ) (number : ℕ) → o ≡ Some number → Steps S (basically around S (basic.Fill t u C number) [] None) → Steps S (where_it_stays (filled around S t u C o) (Stays [] None))
-  filled_steps S t u C o number e x = record { step = x.step; items = x.items; next = x.next; is = ap (λ o. filled around S t u C o [] None) e ∙ x.is; premise = x.premise; served = x.served; fewer = x.fewer; still = x.still }
+  filled_steps S t u C o number e x = record { step = x.step; items = x.items; next = x.next; is = ap (λ o. filled around S t u C o [] None) e ∙ x.is; premise = x.premise; served = x.served; fewer = x.fewer; ended = x.ended; still = x.still }
 
   send_steps : (S : Symbolic) (t C : Name) (es : List Expression) (w : Who) (k : Code) → InPremise S → stands_for S (thread_of w) w ≡ true → code_at S t ≡ Some (Send C es w ⨾ k) → Steps S (acts around S t (Send C es w ⨾ k) [] None)
   unfolding basic_turn
   send_steps S t C es w k p partner at =
       elim (apply_quietly P F S (rule.Pass t (thread_of w) C)) as (λ o. apply_quietly P F S (rule.Pass t (thread_of w) C) ≡ o → Steps S (where_it_stays (filled around S t (thread_of w) C (least_free S.pending)) (applied (basic.Pass t (thread_of w) C) o [] None))) [
         | Ok r ↦ λ e. let x = basic_turn S (basic.Pass t (thread_of w) C) r p e in
-            record { step = _; items = _; next = r.next; is = refl; premise = x.premise; served = x.served; fewer = x.fewer; still = x.still }
+            record { step = _; items = _; next = r.next; is = refl; premise = x.premise; served = x.served; fewer = x.fewer; ended = x.ended; still = x.still }
         | Err why ↦ λ e.
             let f = some_free 1000000 1 S.pending p.room.used p.room.uses (let h = p.room.few in omega (arith, h, few)) in
             let a = fill_applies S t C (thread_of w) es w k f.0 partner at f.2.low (let h = f.2.high in omega (arith, h)) f.2.unused in
@@ -309,6 +310,7 @@ module _ (P : Program) (sizes : Name → ℕ) (M s : Name) (n depth most : ℕ) 
               premise = x.premise;
               served = x.served;
               fewer = x.fewer;
+              ended = x.ended;
               still = x.still;
             }
       ]
@@ -322,12 +324,12 @@ module _ (P : Program) (sizes : Name → ℕ) (M s : Name) (n depth most : ℕ) 
   first_steps S [] p = inr record { is = refl; each = tt }
   first_steps S (t ∷ ts) p =
       elim (turn_steps S t p) [
-        | inl x ↦ inl record { step = x.step; items = x.items; next = x.next; is = ap (where_it_stays (first_of (advance around S) ts)) x.is; premise = x.premise; served = x.served; fewer = x.fewer; still = x.still }
+        | inl x ↦ inl record { step = x.step; items = x.items; next = x.next; is = ap (where_it_stays (first_of (advance around S) ts)) x.is; premise = x.premise; served = x.served; fewer = x.fewer; ended = x.ended; still = x.still }
         | inr none ↦
             let stays : advance around S t [] None ≡ Stays [] None = ap (λ o. acts_for around S o [] None) none in
             let first = ap (where_it_stays (first_of (advance around S) ts)) stays in
             elim (first_steps S ts p) [
-              | inl x ↦ inl record { step = x.step; items = x.items; next = x.next; is = first ∙ x.is; premise = x.premise; served = x.served; fewer = x.fewer; still = x.still }
+              | inl x ↦ inl record { step = x.step; items = x.items; next = x.next; is = first ∙ x.is; premise = x.premise; served = x.served; fewer = x.fewer; ended = x.ended; still = x.still }
               | inr w ↦ inr record { is = first ∙ w.is; each = (none, w.each) }
             ]
       ]

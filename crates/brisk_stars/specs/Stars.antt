@@ -35,6 +35,18 @@ IsRefused P budget = (R : Report) × (searched P budget ≡ Stuck R) × (PlainRu
 abbrev pub StarsAreNeverRefusedEmptily : Type 0
 StarsAreNeverRefusedEmptily = (P : Program) (budget : ℕ) → IsStarSource P → IsSequenced P budget ⊎ IsRefused P budget
 
+-- the search is stuck, and the plain run at size one deadlocks, or at some gather of the centre a message is left over
+abbrev pub IsRefusedForCause : Program → ℕ → Type 0
+IsRefusedForCause P budget = (R : Report) × (searched P budget ≡ Stuck R) × (PlainRunDeadlocks P ⊎ ((r : RoleText) × IsCentre P r × IsLeftOver P r))
+
+-- a star is sequenced, or refused for such a cause, whatever the budget
+abbrev pub StarsAreRefusedForCause : Type 0
+StarsAreRefusedForCause = (P : Program) (budget : ℕ) → IsStarSource P → IsSequenced P budget ⊎ IsRefusedForCause P budget
+
+-- the one part that is wanting
+abbrev pub RestsOnOvertaking : Type 0
+RestsOnOvertaking = LeftOverOvertakes → StarsAreNeverRefusedEmptily
+
 -- the three parts from which it follows
 abbrev pub FromItsParts : Type 0
 FromItsParts = PassesEnd → UnservedStarsDeadlock → LeftOverOvertakes → StarsAreNeverRefusedEmptily

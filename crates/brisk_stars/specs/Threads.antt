@@ -1,11 +1,13 @@
 -- What a symbolic state of a star says: each set's thread counts as its first member.
-use Rattle.std.specs.Prelude.{◌≡◌, ◌≢◌, ℕ, ◌≤◌, true, false, List, [], ◌∷◌, ◌++◌, Some, Ok, length, if◌then◌else◌, nat_eq, nat_lt}
+use Rattle.std.specs.Prelude.{◌≡◌, ◌≢◌, ℕ, ◌+◌, ◌≤◌, true, false, List, [], ◌∷◌, ◌++◌, Some, Ok, length, if◌then◌else◌, nat_eq, nat_lt}
 use Rattle.brisk_values.specs.declared.value.Pid.{Pid}
 use Rattle.brisk_values.specs.Names.{Name, same_name}
 use Rattle.brisk_syntax.specs.declared.program.Program.{Program}
 use Rattle.brisk_syntax.specs.Classes.{every, all_local, is_named, talks_to}
 use Rattle.brisk_syntax.specs.Roles.{RoleText}
-use Rattle.brisk_syntax.specs.Syntax.{Code, ◌then◌}
+use Rattle.brisk_syntax.specs.Counts.{statements}
+use Rattle.brisk_syntax.specs.Depths.{code_depth}
+use Rattle.brisk_syntax.specs.Syntax.{Statement, Code, ◌⨾◌, ◌then◌}
 use Rattle.brisk_syntax.specs.WellTyped.{all_unbegun}
 use Rattle.brisk_state.specs.declared.thread.Mode.{Mode}
 use Rattle.brisk_state.specs.declared.thread.Mode.TheVariants.{One, At}
@@ -73,10 +75,13 @@ LocalStepsKeepServing =
     Moves S t rest E → IsStarThreads sizes M E × (served_at sizes M E ≡ served_at sizes M S)
 
 -- A rule of the centre over a set was entered: its premise's start, with the centre at its body and the set in focus, and what is behind
--- it. The body's words are those of the one turn.
+-- it. The body's words are those of the one turn; it is no longer and nests no deeper than the loop.
 pub record IsCentresLoop (sizes : Name → ℕ) (M s : Name) (S : Symbolic) (r : Entered) : Type 0 where
   pub body : Code
   pub rest : Code
+  pub behind : (head : Statement) × (at_in S M ≡ head ⨾ rest)
+  pub fewer : statements body + statements rest ≤ statements (at_in S M)
+  pub shallow : code_depth body ≤ code_depth (at_in S M)
   pub owners : r.owners ≡ record { name = M; rest = rest } ∷ []
   pub looks : (rules.looks r.kind) ≡ Outside s
   pub threads : r.start.threads ≡ with_code M body (with_mode s At S.threads)

@@ -39,8 +39,8 @@ pub struct Running {
     pub moves: u64,
 }
 
-// The process for which a name stands, where these members were chosen.
-fn process(focus: &[Pid], name: Name) -> Pid
+/// The process for which a name stands, where these members were chosen, the innermost last.
+pub fn process(focus: &[Pid], name: Name) -> Pid
     ensures { result ≡ focus_on focus.now name }
 {
     let mut found = Pid {
@@ -55,8 +55,8 @@ fn process(focus: &[Pid], name: Name) -> Pid
     found
 }
 
-// A mark for each member of a set of this size, of which none is set.
-fn unmarked(alloc: Global, size: u32) -> Result<Vec<bool>, NoMemory>
+/// A mark for each member of a set of this size, of which none is set.
+pub fn unmarked(alloc: Global, size: u32) -> Result<Vec<bool>, NoMemory>
     ensures none { IfOk result (λ v. v.items ≡ replicate size false) }
     ensures len { IfOk result (λ v. length v.items ≡ size) }
 {
@@ -77,7 +77,8 @@ fn is_open(size: u32, used: &[bool], member: u32) -> bool
 }
 
 impl Setting<'_> {
-    fn guard(&self, run: &Running, focus: &[Pid], name: &Name, e: &Expr) -> bool
+    /// Whether the guard holds of the process for which the name stands.
+    pub fn guard(&self, run: &Running, focus: &[Pid], name: &Name, e: &Expr) -> bool
         ensures { result ≡ is_true_value (value_of (size_in self.now.sizes.now) (value_in run.now.store (focus_on focus.now name.now)) (expression_of e.now)) }
     {
         is_true(eval(e, process(focus, *name), &run.store, self.sizes))
@@ -132,8 +133,8 @@ impl Setting<'_> {
         Ok(())
     }
 
-    // The next choice, which must be a member of a set of this size that isn't marked as used.
-    fn choose(&self, run: &mut Running, size: u32, used: &[bool]) -> Result<u32, SeqFault>
+    /// The next choice, which must be a member of a set of this size that isn't marked as used.
+    pub fn choose(&self, run: &mut Running, size: u32, used: &[bool]) -> Result<u32, SeqFault>
         ensures below { IfOk result (λ k. k < size) }
         ensures goes { IfOk result (λ k. (us : List ℕ) (go : ℕ → Run → Ended) → Marks used.now us → Leads self.now.choices.now run.old run.new (λ r. spec_choose size us r r.choices go) (go k)) }
         ensures stops { IfErr result (λ f. (us : List ℕ) (go : ℕ → Run → Ended) → Marks used.now us → Stops self.now.choices.now run.old (λ r. spec_choose size us r r.choices go) f) }
@@ -150,8 +151,9 @@ impl Setting<'_> {
         Ok(member)
     }
 
+    /// Does the item, where these members are in focus, the innermost last.
     #[cycle(body)]
-    fn item(&self, run: &mut Running, focus: &mut Vec<Pid>, q: &Seq) -> Result<(), SeqFault>
+    pub fn item(&self, run: &mut Running, focus: &mut Vec<Pid>, q: &Seq) -> Result<(), SeqFault>
         ensures goes { OnOk result (Goes self.now.choices.now run.old run.new (does (given_in self.now) (item_of q.now) (focus_on focus.old.items))) }
         ensures stops { IfErr result (λ f. Stops self.now.choices.now run.old (does (given_in self.now) (item_of q.now) (focus_on focus.old.items)) f) }
         ensures focus { OnOk result (focus.new.items ≡ focus.old.items) }

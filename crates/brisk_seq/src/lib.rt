@@ -8,6 +8,8 @@ mod kinds;
 mod program;
 mod tree;
 
+pub use boxes::Boxes;
+pub use evaluator::{Running, Setting, process, unmarked};
 pub use fault::SeqFault;
 pub use program::run;
 pub use tree::{Body, Fill, Pass, Seq, SeqProgram, Take};

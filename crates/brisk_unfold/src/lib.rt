@@ -1,0 +1,11 @@
+//! The canonical schedule of a derivation: the events that its steps stand for, along a run of its sequential program.
+#![tactic(auto)]
+
+mod fault;
+mod progress;
+mod schedule;
+mod senders;
+mod unfolder;
+
+pub use fault::UnfoldFault;
+pub use schedule::unfold;

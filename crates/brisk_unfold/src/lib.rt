@@ -5,6 +5,8 @@ mod fault;
 mod progress;
 mod schedule;
 mod senders;
+#[cfg(test)]
+mod tests;
 mod unfolder;
 
 pub use fault::UnfoldFault;

@@ -24,7 +24,7 @@ use brisk_values::{Instance, Store};
 use std::alloc::Global;
 
 // The events of the steps, from this store on.
-fn events_from(
+pub(crate) fn events_from(
     unfolder: &Unfolder<'_>,
     derivation: &Steps,
     body: &Body,

@@ -1,9 +1,7 @@
 //! Why a derivation isn't unfolded.
 ghost use Rattle.std.specs.Prelude.{◌≡◌};
-ghost use Rattle.brisk_unfold.specs.declared.fault.UnfoldFault.TheVariants.{NoMemory as OutOfMemory};
 
 use brisk_seq::SeqFault;
-use brisk_values::NoMemory;
 use thiserror::Error;
 
 /// Why a derivation isn't unfolded.
@@ -14,14 +12,6 @@ pub enum UnfoldFault {
     Seq(SeqFault),
     #[error("out of memory")]
     NoMemory,
-}
-
-impl From<NoMemory> for UnfoldFault {
-    ghost from_gives = { λ _ f. f ≡ OutOfMemory };
-
-    fn from(_: NoMemory) -> UnfoldFault {
-        UnfoldFault::NoMemory
-    }
 }
 
 impl From<SeqFault> for UnfoldFault {

@@ -165,6 +165,7 @@ impl Unfolder<'_> {
     {
         match step {
             Step::Basic(basic) => self.basic(progress, focus, basic, None),
+            // No valid derivation has an item too few.
             _ => Ok(()),
         }
     }
@@ -217,6 +218,7 @@ impl Unfolder<'_> {
                     body,
                 )
             }
+            // No valid derivation has such an item for such a step.
             _ => Ok(()),
         }
     }

@@ -1,6 +1,5 @@
 //! Texts of derivations, read.
 ghost use Rattle.std.specs.Prelude.{◌≡◌, ◌+◌, ◌<◌, ◌≤◌, ◌^◌, ℕ, true, List, [], IfOk, IfErr, MatchOption, drop, length};
-ghost use Rattle.brisk_derivtext.specs.Kept as kept;
 ghost use Rattle.brisk_derivtext.specs.Kept.{reading_of, Causes, GoesOn, IsCounted, NoLineBegins, SoFar};
 ghost use Rattle.brisk_derivtext.specs.Lines.{line_text, BeginsWith};
 ghost use Rattle.brisk_derivtext.specs.Reading.{IsRead};
@@ -10,7 +9,7 @@ use crate::fault::DerivFault;
 use crate::line::Line;
 use crate::parsing::read_line;
 use crate::reading::{Reading, stand, start};
-use crate::refusal::Refusal;
+use crate::refusal::fault_at;
 use crate::words::{behind, cut};
 use brisk_derivation::Steps;
 use brisk_values::NoMemory;
@@ -28,17 +27,6 @@ fn first_line(alloc: Global, rest: &[u8]) -> Result<Option<(Line, usize)>, NoMem
     match read_line(alloc, bytes)? {
         Some(line) => Ok(Some((line, bytes.len() + 1))),
         None => Ok(None),
-    }
-}
-
-// What a refusal at this line is told as.
-fn fault_at(refusal: Refusal, number: u64) -> DerivFault
-    ensures { result ≡ kept.fault_at refusal number }
-{
-    match refusal {
-        Refusal::NoLine => DerivFault::Line(number),
-        Refusal::TooLong => DerivFault::TooLarge(number),
-        Refusal::NoMemory => DerivFault::NoMemory,
     }
 }
 

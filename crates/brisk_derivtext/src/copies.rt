@@ -11,6 +11,7 @@ use brisk_syntax::copy_names;
 use brisk_values::NoMemory;
 use std::alloc::Global;
 
+/// Nothing.
 pub fn no_steps(alloc: Global) -> Steps
     ensures { result ≡ none }
 {

@@ -1,8 +1,9 @@
 //! A derivation's text, checked.
-ghost use Rattle.std.specs.Prelude.{◌≡◌, Ok as okay, IfOk, IfErr, IsErr, OnErr};
+ghost use Rattle.std.specs.Prelude.{◌≡◌, Ok as okay, Err as failed, IfOk, IfErr, IsErr, OnErr};
 ghost use Rattle.brisk_syntax.specs.WellTyped.{IsProgramWellTyped};
 ghost use Rattle.brisk_print.specs.Layout.{sequential};
 ghost use Rattle.brisk_check.specs.Checking as checking;
+ghost use Rattle.brisk_check.specs.declared.verdict.CheckFault.TheVariants.{NoMemory as out_of_memory};
 ghost use Rattle.brisk_check.specs.Seen.{seen, spent, Ends, Faults, Fed};
 ghost use Rattle.brisk_check.specs.Told.{told, Causes, Judges};
 ghost use Rattle.brisk_check.specs.Working.{checked_of, path_of, work_of, IsVerdictOf};
@@ -147,6 +148,7 @@ impl Checker {
     pub fn finish(&self, seq_text: &[u8]) -> Result<Verdict, CheckFault>
         ensures ok { IfOk result (Ends self.now seq_text.now) }
         ensures cause { IfErr result (Faults self.now seq_text.now) }
+        ensures stays { self.now ≡ spent → result ≡ failed out_of_memory }
     {
         match &self.work {
             Ok(work) => ended(self.alloc, work, seq_text),

@@ -1,9 +1,11 @@
 -- The lines of a text, read one after another.
-use Rattle.std.proofs.Common.{◌≡◌, ◌<◌, ◌≤◌, ◌+◌, ◌-◌, ◌^◌, ℕ, true, List, [], ◌∷◌, ◌++◌, length, Option, Some, None, refl, suc, sym, ap, subst, ◌∙◌, append-nil, arith}
-use Rattle.std.specs.Prelude.{min, Ok, Err}
+use Rattle.std.proofs.Common.{◌≡◌, ◌<◌, ◌≤◌, ◌+◌, ◌-◌, ◌^◌, ℕ, true, false, ◌==◌, List, [], ◌∷◌, ◌++◌, drop, length, Some, refl, suc, sym, ap, subst, ◌∙◌, append-nil, arith}
+use Rattle.std.specs.Prelude.{min, Result, Ok, Err, IfOk, IfErr}
 use Rattle.std.specs.List.{AllByRecursion}
+use Rattle.std.proofs.Math.Seq.{drop-append-add}
+use Rattle.std.proofs.lemmas.Bool.{eqb-true}
 use Rattle.brisk_lines.specs.Lines.{Reads}
-use Rattle.brisk_lines.specs.Pieces.{Lacks}
+use Rattle.brisk_lines.specs.Pieces.{IsCut, Lacks}
 use Rattle.brisk_lines.proofs.Cuts.{cut_once}
 use Rattle.brisk_text.specs.Values.{Text}
 use Rattle.brisk_derivation.specs.Steps.{Steps}
@@ -13,15 +15,14 @@ use Rattle.brisk_derivtext.specs.declared.line.Format.{Format}
 use Rattle.brisk_derivtext.specs.declared.line.Line.{Line}
 use Rattle.brisk_derivtext.specs.declared.refusal.Refusal.{Refusal}
 use Rattle.brisk_derivtext.specs.declared.refusal.Refusal.TheVariants as refusal
-use Rattle.brisk_derivtext.specs.declared.reading.Reading as lines_kept
 use Rattle.brisk_derivtext.specs.Kept.{Causes, SoFar, Stands, fault_at}
 use Rattle.brisk_derivtext.specs.Lined.{Lined, unread, number_behind, Takes, TakesAll, Refuses, LinesAreTheText}
 use Rattle.brisk_derivtext.specs.Lines.{line_text, IsLegal, BeginsWith}
-use Rattle.brisk_derivtext.specs.Reading.{Reading, start, NoLine, TooLong, next, read_line, read_all, IsRead, AtLine, TooLarge, Fails}
+use Rattle.brisk_derivtext.specs.Reading.{Reading, start, next, read_line, read_all, IsRead, AtLine, TooLarge, Fails}
 use Rattle.brisk_derivtext.specs.Texts.{text_of_lines}
 use Rattle.brisk_derivtext.proofs.Differ.{line_unended, lines_differ}
 use Rattle.brisk_derivtext.proofs.Once.{behind, first_read, same_ok}
-use Rattle.brisk_derivtext.proofs.Onward.{bounded_none, fails_here, is_read, not_nothing, stands, starts}
+use Rattle.brisk_derivtext.proofs.Onward.{bounded_none, fails_here, is_read, no_end, no_line_fails, not_nothing, stands, starts}
 
 -- ---- a line is refused
 
@@ -89,17 +90,18 @@ taken f bytes D h =
 front : (bytes more : Text) → Lacks 10 bytes → (l : Line) (m : Text) → BeginsWith (bytes ++ 10 ∷ more) l m → bytes ≡ line_text l
 front bytes more lacks l m b = (cut_once 10 bytes (10 ∷ more) (line_text l) (10 ∷ m) lacks refl (line_unended l b.0) refl b.1).0
 
+refused_at : (text bytes more : Text) (v : Lined) (f : DerivFault) (n : ℕ) → SoFar text (bytes ++ 10 ∷ more) v.reading n → ((k : ℕ) → k ≡ number_behind v.count → k ≡ n + 1) → Lacks 10 bytes → Refuses v bytes f → Causes text f
+refused_at text bytes more v (fault.Line k) n s number lacks (e, none) =
+    subst (λ z. Fails text (AtLine z)) (sym (number k e))
+    (fails_here text (bytes ++ 10 ∷ more) v.reading n s (λ h. not_nothing bytes more h.1) (λ l m b. none l b.0 (front bytes more lacks l m b)))
+refused_at text bytes more v (fault.TooLarge k) n s number lacks (e, l, legal, is, long) =
+    let fails : Fails text (TooLarge (n + 1)) = record { before = s.before; here = v.reading; rest = bytes ++ 10 ∷ more; parts = s.parts; comes = s.comes; fails = (ap (λ z. z + 1) s.lines, l, more, (legal, ap (λ z. z ++ 10 ∷ more) is), long) } in
+    subst (λ z. Fails text (TooLarge z)) (sym (number k e)) fails
+refused_at text bytes more v fault.NoMemory n s number lacks h = tt
+
 refused : (ls : List Line) (v : Lined) (bytes more : Text) (f : DerivFault) → TakesAll unread ls v → length ls + 1 < 2 ^ 64 → Lacks 10 bytes → Refuses v bytes f → Causes (text_of_lines ls ++ (bytes ++ 10 ∷ more)) f
-refused ls v bytes more (fault.Line k) t few lacks (n, none) =
-    let text = text_of_lines ls ++ (bytes ++ 10 ∷ more) in
-    subst (λ z. Fails text (AtLine z)) (sym (number_is ls v k t few n))
-    (fails_here text (bytes ++ 10 ∷ more) v.reading (length ls) (whole_so_far ls v (bytes ++ 10 ∷ more) t) (λ h. not_nothing bytes more h.1) (λ l m b. none l b.0 (front bytes more lacks l m b)))
-refused ls v bytes more (fault.TooLarge k) t few lacks (n, l, legal, is, long) =
-    let text = text_of_lines ls ++ (bytes ++ 10 ∷ more) in
-    let s = whole_so_far ls v (bytes ++ 10 ∷ more) t in
-    let fails : Fails text (TooLarge (length ls + 1)) = record { before = s.before; here = v.reading; rest = bytes ++ 10 ∷ more; parts = s.parts; comes = s.comes; fails = (ap (λ z. z + 1) s.lines, l, more, (legal, ap (λ z. z ++ 10 ∷ more) is), long) } in
-    subst (λ z. Fails text (TooLarge z)) (sym (number_is ls v k t few n)) fails
-refused ls v bytes more fault.NoMemory t few lacks h = tt
+refused ls v bytes more f t few lacks h =
+    refused_at (text_of_lines ls ++ (bytes ++ 10 ∷ more)) bytes more v f (length ls) (whole_so_far ls v (bytes ++ 10 ∷ more) t) (λ k e. number_is ls v k t few e) lacks h
 
 no_front : (rest : Text) → Lacks 10 rest → (l : Line) (m : Text) → BeginsWith rest l m → ⊥
 no_front rest lacks l m b = let wrong = (cut_once 10 rest [] (line_text l) (10 ∷ m) lacks tt (line_unended l b.0) refl (append-nil rest ∙ b.1)).1 in cc
@@ -110,3 +112,56 @@ early ls v rest t lacks h =
 
 pub lines_are_the_text : LinesAreTheText
 lines_are_the_text = record { steps = at_end; taken = taken; refused = refused; early = early }
+
+-- ---- a text in pieces
+
+is_line : (rest bytes end : Text) → IsCut 10 rest bytes end → (end ≡ [] → ⊥) → (more : Text) × (rest ≡ bytes ++ 10 ∷ more)
+is_line rest bytes [] cut h = absurd (h refl)
+is_line rest bytes (x ∷ more) cut h = (more, cut.whole ∙ ap (λ z. bytes ++ z ∷ more) cut.rest_begins)
+
+one_behind : (n m : ℕ) → n + m < 2 ^ 63 → number_behind n ≡ n + 1
+one_behind n m h = omega arith
+
+-- the line in front is read
+pub goes_on : (text rest bytes end : Text) (u v : Lined) (l : Line) → IsCut 10 rest bytes end → (end ≡ [] → ⊥) → u.count + length rest < 2 ^ 63 → SoFar text rest u.reading u.count → Takes u bytes l v → SoFar text (drop (length bytes + 1) rest) v.reading v.count
+goes_on text rest bytes end u v l cut h few s t =
+    let more = is_line rest bytes end cut h in
+    let next = stands text rest more.0 u.reading v.reading u.count l s (t.legal, more.1 ∙ ap (λ z. z ++ 10 ∷ more.0) t.bytes_of) t.reads in
+    let left : drop (length bytes + 1) rest ≡ more.0 = ap (drop (length bytes + 1)) more.1 ∙ drop-append-add bytes (10 ∷ more.0) 1 in
+    subst (λ z. SoFar text z v.reading v.count) (sym left) (subst (λ n. SoFar text more.0 v.reading n) (sym (t.count ∙ one_behind u.count (length rest) few)) next)
+
+-- it is refused
+pub stops : (text rest bytes end : Text) (u : Lined) (f : DerivFault) → IsCut 10 rest bytes end → (end ≡ [] → ⊥) → u.count + length rest < 2 ^ 63 → SoFar text rest u.reading u.count → Refuses u bytes f → Causes text f
+stops text rest bytes end u f cut h few s r =
+    let more = is_line rest bytes end cut h in
+    refused_at text bytes more.0 u f u.count (subst (λ z. SoFar text z u.reading u.count) more.1 s) (λ k e. e ∙ one_behind u.count (length rest) few) cut.front_lacks r
+
+-- there is none
+pub no_line : (text rest bytes end : Text) (u : Lined) → IsCut 10 rest bytes end → end ≡ [] → SoFar text rest u.reading u.count → ((u.reading.ended ≡ true) × (rest ≡ []) → ⊥) → Fails text (AtLine (u.count + 1))
+no_line text rest bytes end u cut e s h = no_line_fails text rest u.reading u.count s h (no_end rest bytes end cut (λ m p. let w : [] ≡ 10 ∷ m = sym e ∙ p in cc))
+
+-- the whole text is read
+pub ends_ok : (text rest : Text) (v : Lined) (r : Result Steps DerivFault) → SoFar text rest v.reading v.count → v.reading.ended ≡ true → rest ≡ [] → IfOk r (λ a. (v.reading.ended ≡ true) × (a ≡ v.reading.body.steps)) → IfOk r (λ D. (f : Format) × IsRead f text D)
+ends_ok text rest v (Ok D) s e n h =
+    let r = is_read text rest v.reading v.count s e n in
+    (r.0, subst (IsRead r.0 text) (sym h.1) r.1)
+ends_ok text rest v (Err f) s e n h = tt
+
+pub ends_err : (text : Text) (v : Lined) (r : Result Steps DerivFault) (P : DerivFault → Type 0) → v.reading.ended ≡ true → IfErr r (λ f. (v.reading.ended ≡ false) × P f) → IfErr r (Causes text)
+ends_err text v (Ok D) P e h = tt
+ends_err text v (Err f) P e h = absurd (let w : true ≡ false = sym e ∙ h.0 in cc)
+
+pub is_nothing : (b : Text) → (length b == 0) ≡ true → b ≡ []
+is_nothing [] e = refl
+is_nothing (x ∷ b) e = absurd (let k : length (x ∷ b) ≡ 0 = eqb-true (length (x ∷ b)) 0 e in omega arith)
+
+pub is_something : (b : Text) → (length b == 0) ≡ false → b ≡ [] → ⊥
+is_something [] e h = let w : true ≡ false = e in cc
+is_something (x ∷ b) e h = let w = h in cc
+
+-- there are no more lines than bytes
+pub still_few : (before after bytes rest left all : ℕ) → after ≡ before + 1 → (0 < bytes) × (bytes ≤ rest) → left ≡ rest - bytes → before + rest ≤ all → after + left ≤ all
+still_few before after bytes rest left all e b l h =
+    let some = b.0 in
+    let most = b.1 in
+    omega arith

@@ -1,5 +1,5 @@
 -- Texts read line by line: how many lines were read, and what they come to.
-use Rattle.std.specs.Prelude.{◌≡◌, ◌<◌, ℕ, ◌+◌, ◌-◌, ◌^◌, min, true, List, [], ◌∷◌, ◌++◌, length, None, Ok, Err}
+use Rattle.std.specs.Prelude.{◌≡◌, ◌<◌, ℕ, ◌+◌, ◌-◌, ◌^◌, min, true, List, [], ◌∷◌, ◌++◌, drop, length, None, Result, Ok, Err}
 use Rattle.brisk_lines.specs.Pieces.{Lacks}
 use Rattle.brisk_text.specs.Values.{Text}
 use Rattle.brisk_derivation.specs.Steps.{Steps}
@@ -7,7 +7,7 @@ use Rattle.brisk_derivtext.specs.declared.fault.DerivFault.{DerivFault}
 use Rattle.brisk_derivtext.specs.declared.fault.DerivFault.TheVariants as fault
 use Rattle.brisk_derivtext.specs.declared.line.Format.{Format}
 use Rattle.brisk_derivtext.specs.declared.line.Line.{Line}
-use Rattle.brisk_derivtext.specs.Kept.{Causes}
+use Rattle.brisk_derivtext.specs.Kept.{Causes, SoFar}
 use Rattle.brisk_derivtext.specs.Lines.{line_text, IsLegal}
 use Rattle.brisk_derivtext.specs.Reading.{Reading, TooLong, next, read_line, IsRead, Fails, AtLine}
 use Rattle.brisk_derivtext.specs.Reading as text
@@ -47,6 +47,11 @@ early u = fault.Line (number_behind u.count)
 abbrev pub TakesAll : Lined → List Line → Lined → Type 0
 TakesAll u [] v = u ≡ v
 TakesAll u (l ∷ ls) v = (w : Lined) × Takes u (line_text l) l w × TakesAll w ls v
+
+-- a line more of the text is read, the first of the rest; or the text fails there
+abbrev pub GoesOn : Text → Text → Result (Lined × ℕ) DerivFault → Type 0
+GoesOn text rest (Ok r) = SoFar text (drop r.1 rest) r.0.reading r.0.count
+GoesOn text rest (Err f) = Causes text f
 
 -- To read the lines of a text one by one is to read the text: at its end there are its steps; and where a line is refused,
 -- or the text ends too early, the text fails there.

@@ -7,11 +7,12 @@ use Rattle.brisk_syntax.specs.declared.program.Program.{Program}
 use Rattle.brisk_derivation.specs.Steps.{Step, Basic, Branch, While, For, Repeat, Gather, Pick, Steps, no_steps, ◌▷◌}
 use Rattle.brisk_rules.specs.Derives.{Failure, outcome}
 use Rattle.brisk_loops.specs.Walk.{Walked, Called, Call, Enter, Apply, Other, Leave, alone, made, made_all, calls, calls_of, start, finish}
+use Rattle.brisk_loops.specs.WalkKept.{kept_call, kept_all}
 use Rattle.brisk_loops.proofs.Walking.{walk_derives}
 use Rattle.brisk_derivtext.specs.declared.line.Line.{Line}
 use Rattle.brisk_derivtext.specs.declared.line.Line.TheVariants as line
 use Rattle.brisk_derivtext.specs.Texts.{lines_in, lines_of}
-use Rattle.brisk_check.specs.Checking.{calls_at, calls_in, Walking, after_call, after_calls, gone, walk_ends}
+use Rattle.brisk_check.specs.Checking.{calls_at, calls_in, called, Walking, after_call, after_calls, gone, walk_ends}
 
 pub calls_append : (xs ys : List Line) → calls_in (xs ++ ys) ≡ calls_in xs ++ calls_in ys
 calls_append [] ys = refl
@@ -48,6 +49,14 @@ all_bare : (cs : List Call) (w : Walked) → made_all (map bare cs) w ≡ made_a
 all_bare [] w = refl
 all_bare (c ∷ cs) w = ap (λ (r : Called). and_then r (made_all (map bare cs))) (bare_made c w) ∙ thens cs (all_bare cs) (made c w)
 
+kept_thens : (cs : List Call) → ((w : Walked) → kept_all (map bare cs) w ≡ kept_all cs w) → (r : Called) → and_then r (kept_all (map bare cs)) ≡ and_then r (kept_all cs)
+kept_thens cs more (Ok v) = more v
+kept_thens cs more (Err f) = refl
+
+all_bare_kept : (cs : List Call) (w : Walked) → kept_all (map bare cs) w ≡ kept_all cs w
+all_bare_kept [] w = refl
+all_bare_kept (c ∷ cs) w = ap (λ (r : Called). and_then (kept_call r) (kept_all (map bare cs))) (bare_made c w) ∙ kept_thens cs (all_bare_kept cs) (kept_call (made c w))
+
 -- the calls of a premise and of the line behind it
 closing : (ls : List Line) (l : Line) (cs : List Call) (d : Call) → calls_at l ≡ d ∷ [] → bare d ≡ d → calls_in ls ≡ map bare cs → calls_in (ls ++ l ∷ []) ≡ map bare (cs ++ d ∷ [])
 closing ls l cs d e f h =
@@ -76,17 +85,17 @@ mutual
       ∙ ap (λ z. map bare (calls s) ++ z) (steps_calls a)
       ∙ sym (map-append bare (calls s) (calls_of a))
 
--- ---- the walk's end
+-- the same with the numbers that are kept
+pub lines_kept : (a : Steps) (w : Walked) → kept_all (calls_in (lines_of a)) w ≡ kept_all (calls_of a) w
+lines_kept a w = ap (λ z. kept_all z w) (steps_calls a) ∙ all_bare_kept (calls_of a) w
 
-abbrev called : Walked → Option Failure → Called
-called w None = Ok w
-called w (Some f) = Err f
+-- ---- the walk's end
 
 call_so : (c : Call) (w : Walked) (r : Called) → called (gone w r).walked (gone w r).failure ≡ r
 call_so c w (Ok v) = refl
 call_so c w (Err f) = refl
 
-calls_so : (cs : List Call) (w : Walked) (o : Option Failure) → called (after_calls cs (record { walked = w; failure = o })).walked (after_calls cs (record { walked = w; failure = o })).failure ≡ and_then (called w o) (made_all cs)
+pub calls_so : (cs : List Call) (w : Walked) (o : Option Failure) → called (after_calls cs (record { walked = w; failure = o })).walked (after_calls cs (record { walked = w; failure = o })).failure ≡ and_then (called w o) (made_all cs)
 calls_so [] w None = refl
 calls_so [] w (Some f) = refl
 calls_so (c ∷ cs) w None =
@@ -94,7 +103,7 @@ calls_so (c ∷ cs) w None =
     calls_so cs v.walked v.failure ∙ ap (λ (r : Called). and_then r (made_all cs)) (call_so c w (made c w))
 calls_so (c ∷ cs) w (Some f) = calls_so cs w (Some f)
 
-ends_so : (w : Walked) (o : Option Failure) → walk_ends w o ≡ and_then (called w o) finish
+pub ends_so : (w : Walked) (o : Option Failure) → walk_ends w o ≡ and_then (called w o) finish
 ends_so w None = refl
 ends_so w (Some f) = refl
 

@@ -36,7 +36,7 @@ reads_line read reader l h = by (read (line_text l)) (reader (line_text l))
 other_byte : (x : ℕ) → differs 10 x ≡ true → (x == 10) ≡ false
 other_byte x e = not-true (x == 10) e
 
-feed_rest : (read : Reader) (c : Checking) (t more : Text) → Lacks 10 t → feed read c (t ++ more) ≡ feed read (record c { rest = c.rest ++ t }) more
+pub feed_rest : (read : Reader) (c : Checking) (t more : Text) → Lacks 10 t → feed read c (t ++ more) ≡ feed read (record c { rest = c.rest ++ t }) more
 feed_rest read c [] more h = ap (λ z. feed read (record c { rest = z }) more) (sym (append-nil c.rest))
 feed_rest read c (x ∷ t) more h =
     let two = both_true (differs 10 x) (list_all (differs 10) t) h in
@@ -137,7 +137,7 @@ verdict_is_given read P f text seq D reader h =
 
 -- ---- faults
 
-fault_kept : (read : Reader) (c : Checking) (f : TextFault) (bs : Text) → c.fault ≡ Some f → (feed read c bs).fault ≡ Some f
+pub fault_kept : (read : Reader) (c : Checking) (f : TextFault) (bs : Text) → c.fault ≡ Some f → (feed read c bs).fault ≡ Some f
 fault_kept read c f [] e = e
 fault_kept read c f (x ∷ bs) e = fault_kept read (byte read c x) f bs (by (x == 10))
   where
@@ -149,7 +149,7 @@ fault_kept read c f (x ∷ bs) e = fault_kept read (byte read c x) f bs (by (x =
     by true = taken_so c.fault e e
     by false = e
 
-told : (c : Checking) (f : TextFault) (seq : Text) → c.fault ≡ Some f → finish c seq ≡ Err f
+pub told : (c : Checking) (f : TextFault) (seq : Text) → c.fault ≡ Some f → finish c seq ≡ Err f
 told c f seq e = ap (λ z. unless_failed z (unless_undone (is_done c.rest c.reading.ended) (c.whole + 1) (judged seq (walk_ends c.walk.walked c.walk.failure)))) e
 
 -- bytes that lack byte 10, or those of a line and those behind it

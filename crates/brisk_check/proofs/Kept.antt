@@ -15,7 +15,6 @@ use Rattle.brisk_derivtext.specs.Texts.{lines_of, most_nested}
 use Rattle.brisk_derivtext.proofs.Putting.{grows, lines_then}
 use Rattle.brisk_check.specs.Checking.{calls_in, lines_if, stands_for, calls_for}
 use Rattle.brisk_check.proofs.Calls.{calls_append}
-use Rattle.std.proofs.lemmas.Bool.{not-true}
 use Rattle.brisk_values.proofs.Changes.{both_true}
 
 -- the calls of the main steps so far

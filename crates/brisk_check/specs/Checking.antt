@@ -57,6 +57,11 @@ pub record Walking : Type 0 where
   pub walked : Walked
   pub failure : Option Failure
 
+-- what a walk has come to
+abbrev pub called : Walked → Option Failure → Called
+called w None = Ok w
+called w (Some failure) = Err failure
+
 -- the walk goes on so, or fails
 abbrev pub gone : Walked → Called → Walking
 gone w (Ok v) = record { walked = v; failure = None }

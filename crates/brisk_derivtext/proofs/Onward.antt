@@ -1,23 +1,19 @@
 -- A text is read line by line.
-use Rattle.std.proofs.Common.{◌≡◌, ◌≤◌, ◌+◌, ℕ, Bool, true, false, List, [], ◌∷◌, ◌++◌, drop, length, length-append, Option, Some, None, refl, sym, ap, subst, ◌∙◌, append_assoc, append-nil, arith}
+use Rattle.std.proofs.Common.{◌≡◌, ◌+◌, ℕ, Bool, true, false, List, [], ◌∷◌, ◌++◌, length, length-append, Option, Some, None, refl, sym, ap, subst, ◌∙◌, append_assoc, append-nil, arith}
 use Rattle.std.specs.Prelude.{Ok, Err, nat_lt, if◌then◌else◌}
 use Rattle.std.specs.List.{AllByRecursion}
-use Rattle.std.proofs.Math.Seq.{drop-append-add}
-use Rattle.brisk_lines.specs.Lines.{Reads}
 use Rattle.brisk_lines.specs.Pieces.{IsCut}
 use Rattle.brisk_lines.proofs.Cuts.{cut_once}
 use Rattle.brisk_text.specs.Values.{Text}
 use Rattle.brisk_derivtext.specs.declared.line.Format.{Format}
 use Rattle.brisk_derivtext.specs.declared.line.Line.{Line}
-use Rattle.brisk_derivtext.specs.declared.refusal.Refusal.{Refusal}
-use Rattle.brisk_derivtext.specs.declared.refusal.Refusal.TheVariants as refusal
-use Rattle.brisk_derivtext.specs.Kept.{Causes, NoLineBegins, SoFar, Stands, fault_at}
+use Rattle.brisk_derivtext.specs.Kept.{NoLineBegins, SoFar}
 use Rattle.brisk_derivtext.specs.Lines.{line_text, IsLegal, BeginsWith}
 use Rattle.brisk_derivtext.specs.Reading.{Reading, start, NoLine, TooLong, next, bounded, read_line, read_all, and_then, IsRead, AtLine, Fails, lines_so_far}
 use Rattle.brisk_derivtext.specs.Texts.{text_of_lines, most_bytes}
 use Rattle.brisk_derivtext.proofs.Appended.{texts_append}
 use Rattle.brisk_derivtext.proofs.Differ.{line_unended}
-use Rattle.brisk_derivtext.proofs.Once.{same_ok, first_read, same_begins}
+use Rattle.brisk_derivtext.proofs.Once.{same_ok, first_read}
 use Rattle.brisk_derivtext.proofs.Written.{next_has, some_bounded}
 
 -- ---- the line in front
@@ -25,21 +21,6 @@ use Rattle.brisk_derivtext.proofs.Written.{next_has, some_bounded}
 pub no_end : (rest bytes end : Text) → IsCut 10 rest bytes end → ((more : Text) → end ≡ 10 ∷ more → ⊥) → NoLineBegins rest
 no_end rest bytes end cut clash l m b =
     clash m (cut_once 10 bytes end (line_text l) (10 ∷ m) cut.front_lacks cut.rest_begins (line_unended l b.0) refl (sym cut.whole ∙ b.1)).1
-
-pub none_read : (rest bytes end : Text) → IsCut 10 rest bytes end → Reads line_text IsLegal bytes None → NoLineBegins rest
-none_read rest bytes end cut clash l m b =
-    clash l b.0 (cut_once 10 bytes end (line_text l) (10 ∷ m) cut.front_lacks cut.rest_begins (line_unended l b.0) refl (sym cut.whole ∙ b.1)).0
-
-pub line_read : (rest bytes end more : Text) (l : Line) → IsCut 10 rest bytes end → end ≡ 10 ∷ more → Reads line_text IsLegal bytes (Some l) → BeginsWith rest l (drop (length bytes + 1) rest)
-line_read rest bytes end more l cut e k =
-    let whole : rest ≡ bytes ++ 10 ∷ more = cut.whole ∙ ap (λ z. bytes ++ z) e in
-    let left : drop (length bytes + 1) rest ≡ more = ap (drop (length bytes + 1)) whole ∙ drop-append-add bytes (10 ∷ more) 1 in
-    (k.1, whole ∙ ap (λ z. z ++ 10 ∷ more) k.0 ∙ ap (λ z. line_text l ++ 10 ∷ z) (sym left))
-
-pub line_length : (rest bytes end more : Text) (l : Line) → IsCut 10 rest bytes end → end ≡ 10 ∷ more → Reads line_text IsLegal bytes (Some l) → (length bytes + 1 ≡ length (line_text l) + 1) × (length bytes + 1 ≤ length rest)
-line_length rest bytes end more l cut e k =
-    let whole : length rest ≡ length bytes + length (10 ∷ more) = ap length (cut.whole ∙ ap (λ z. bytes ++ z) e) ∙ length-append bytes (10 ∷ more) in
-    (ap (λ z. length z + 1) k.0, omega arith)
 
 -- ---- one line more
 
@@ -94,13 +75,6 @@ fails_here text rest r k s h none =
 
 pub no_line_fails : (text rest : Text) (r : Reading) (k : ℕ) → SoFar text rest r k → ((r.ended ≡ true) × (rest ≡ []) → ⊥) → NoLineBegins rest → Fails text (AtLine (k + 1))
 no_line_fails text rest r k s h none = fails_here text rest r k s h (λ l m b. absurd (none l m b))
-
-pub refusal_fails : (text rest more : Text) (r : Reading) (k : ℕ) (l : Line) (e : Refusal) → SoFar text rest r k → BeginsWith rest l more → Stands (read_line r l) (Err e) → Causes text (fault_at e (k + 1))
-refusal_fails text rest more r k l refusal.NoLine s b p =
-    fails_here text rest r k s (λ h. not_nothing (line_text l) more (sym b.1 ∙ h.1)) (λ j m d. ap (next r) (same_begins rest j l m more d b) ∙ bounded_none (next r l) p)
-refusal_fails text rest more r k l refusal.TooLong s b p =
-    record { before = s.before; here = r; rest = rest; parts = s.parts; comes = s.comes; fails = (ap (λ z. z + 1) s.lines, l, more, b, p) }
-refusal_fails text rest more r k l refusal.NoMemory s b p = tt
 
 -- ---- the end
 

@@ -1,5 +1,5 @@
 -- What lines come to, as it is kept.
-use Rattle.std.specs.Prelude.{◌≡◌, ℕ, true, List, ◌++◌, drop, length, map, reverse, Option, Some, None, Result, Ok, Err}
+use Rattle.std.specs.Prelude.{◌≡◌, ℕ, true, List, ◌++◌, length, map, reverse, Option, Some, None, Result, Ok, Err}
 use Rattle.brisk_text.specs.Values.{Text}
 use Rattle.brisk_derivtext.specs.declared.body.Body as steps_kept
 use Rattle.brisk_derivtext.specs.declared.fault.DerivFault.{DerivFault}
@@ -88,8 +88,3 @@ abbrev pub fault_at : Refusal → ℕ → DerivFault
 fault_at NoLine k = fault.Line k
 fault_at TooLong k = fault.TooLarge k
 fault_at NoMemory k = fault.NoMemory
-
--- the text is read up to the end of line k, the first line of the rest; or it fails there
-abbrev pub GoesOn : Text → Text → ℕ → Result (lines_kept.Reading × ℕ) DerivFault → Type 0
-GoesOn text rest k (Ok r) = SoFar text (drop r.1 rest) (reading_of r.0) k
-GoesOn text rest k (Err f) = Causes text f

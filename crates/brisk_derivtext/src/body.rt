@@ -95,8 +95,8 @@ fn joined(mut entered: Vec<Open>, second: Steps) -> Result<Body, Refusal>
     }
 }
 
-// The step of a rule with this premise.
-fn around(rule: Loop, premise: Steps) -> Step
+/// The step of a rule with this premise.
+pub fn around(rule: Loop, premise: Steps) -> Step
     ensures { step_of result ≡ text.around rule premise }
 {
     match rule {

@@ -1,15 +1,17 @@
-//! Copies of steps, and how deep steps nest.
+//! Copies of lines and of steps, and how deep steps nest.
 ghost use Rattle.std.specs.Prelude.{◌≡◌, ◌-◌, ◌^◌, min, IfOk};
 ghost use Rattle.brisk_derivation.specs.Depths.{step_depth, steps_depth};
 ghost use Rattle.brisk_derivation.specs.Seen.{step_of};
 ghost use Rattle.brisk_derivation.specs.Steps.{no_steps as none};
 ghost use Rattle.brisk_derivtext.specs.Reading.{◌then◌};
 
+use crate::line::{Line, Loop};
 use brisk_derivation::{Drops, Step, Steps};
 use brisk_syntax::copy_names;
 use brisk_values::NoMemory;
 use std::alloc::Global;
 
+/// Nothing.
 pub fn no_steps(alloc: Global) -> Steps
     ensures { result ≡ none }
 {
@@ -24,6 +26,42 @@ fn copy_drops(alloc: Global, drops: &Drops) -> Result<Drops, NoMemory>
     Ok(Drops {
         items: Vec::from_slice(alloc, &drops.items)?,
     })
+}
+
+// The same rule.
+fn copy_loop(alloc: Global, rule: &Loop) -> Result<Loop, NoMemory>
+    ensures { IfOk result (λ r. r ≡ rule.now) }
+{
+    match rule {
+        Loop::While(t, drops) => Ok(Loop::While(*t, copy_drops(alloc, drops)?)),
+        Loop::For(s, owners, drops) => Ok(Loop::For(
+            *s,
+            copy_names(alloc, owners)?,
+            copy_drops(alloc, drops)?,
+        )),
+        Loop::Repeat(s, drops) => Ok(Loop::Repeat(*s, copy_drops(alloc, drops)?)),
+        Loop::Gather(t, drops) => Ok(Loop::Gather(*t, copy_drops(alloc, drops)?)),
+        Loop::Pick(t, drops) => Ok(Loop::Pick(*t, copy_drops(alloc, drops)?)),
+    }
+}
+
+/// The same line.
+pub fn copy_line(alloc: Global, line: &Line) -> Result<Line, NoMemory>
+    ensures { IfOk result (λ l. l ≡ line.now) }
+{
+    match line {
+        Line::Head(format) => Ok(Line::Head(*format)),
+        Line::Plain(step) => Ok(Line::Plain(*step)),
+        Line::Fork(t) => Ok(Line::Fork(*t)),
+        Line::Enter(rule) => Ok(Line::Enter(copy_loop(alloc, rule)?)),
+        Line::Else => Ok(Line::Else),
+        Line::Join => Ok(Line::Join),
+        Line::Close => Ok(Line::Close),
+        Line::End => Ok(Line::End),
+        Line::Part(name) => Ok(Line::Part(*name)),
+        Line::EndPart => Ok(Line::EndPart),
+        Line::Use(name) => Ok(Line::Use(*name)),
+    }
 }
 
 // The same step.

@@ -1,8 +1,9 @@
 //! What holds of derivation texts. The functions do nothing.
 ghost use Rattle.brisk_derivtext.specs.Laws.{BeginningsStand, FailsOnce, GrammarIsRead, LinesAreCut, LinesAreFound, LinesBegin, LinesDiffer, ReadIsGrammar, ReadIsWritten, ReadOnce, ReadStands, TextsDiffer, WrittenIsRead};
+ghost use Rattle.brisk_derivtext.specs.Lined.{LinesAreTheText};
 
 /// Lines that differ have texts that differ, where they are legal.
-pub fn lines()
+pub fn lines_differ()
     ensures { LinesDiffer }
 {}
 
@@ -64,4 +65,9 @@ pub fn grammar_is_read()
 /// What is read in format 2 is a text by its grammar.
 pub fn read_is_grammar()
     ensures { ReadIsGrammar }
+{}
+
+/// To read the lines of a text one by one is to read the text.
+pub fn lines_are_the_text()
+    ensures { LinesAreTheText }
 {}

@@ -1,5 +1,5 @@
 //! Lines of texts, read one after another.
-ghost use Rattle.std.specs.Prelude.{◌≡◌, ◌+◌, ◌<◌, ◌^◌, ◌++◌, ◌∷◌, [], Some as some, None as none, MatchOption, OnOk, length};
+ghost use Rattle.std.specs.Prelude.{◌≡◌, ◌+◌, ◌≤◌, ◌^◌, ◌++◌, ◌∷◌, [], Some as some, None as none, MatchOption, OnOk, length};
 ghost use Rattle.brisk_derivtext.specs.Kept.{body_of, around, parts_of, reading_of, Counts, IsCounted, Stands};
 ghost use Rattle.brisk_derivtext.specs.Lines.{line_text};
 ghost use Rattle.brisk_derivtext.specs.Reading as text;
@@ -63,15 +63,15 @@ fn go_on(frame: Frame, body: Body, bytes: u64) -> Result<Reading, Refusal>
 fn put_line(alloc: Global, reading: Reading, line: Line, bytes: u64) -> Result<Reading, Refusal>
     requires counted { IsCounted reading }
     requires line { bytes ≡ length (line_text line) + 1 }
-    requires few { bytes < 2 ^ 63 }
+    requires few { bytes ≤ 2 ^ 63 }
     ensures { Stands (text.bounded (text.with_steps (reading_of reading) (text.put line (body_of reading.body)))) result }
 {
     let body = put(alloc, reading.body, line)?;
     go_on(reading.frame, body, reading.bytes + bytes)
 }
 
-// The last part of this name.
-fn named(parts: &[Part], name: Name) -> Option<&Part>
+/// The last part of this name.
+pub fn named(parts: &[Part], name: Name) -> Option<&Part>
     ensures { MatchOption result (text.part_named name (parts_of parts.now) ≡ none) (λ p. text.part_named name (parts_of parts.now) ≡ some p.now.steps) }
 {
     let mut found = None;
@@ -192,7 +192,7 @@ fn at_head(mut reading: Reading, line: Line) -> Result<Reading, Refusal>
 fn in_first(alloc: Global, reading: Reading, line: Line, bytes: u64) -> Result<Reading, Refusal>
     requires counted { IsCounted reading }
     requires line { bytes ≡ length (line_text line) + 1 }
-    requires few { bytes < 2 ^ 63 }
+    requires few { bytes ≤ 2 ^ 63 }
     ensures { Stands (text.bounded (text.behind_head format.Format1 (reading_of reading) line)) result }
 {
     match line {
@@ -205,7 +205,7 @@ fn in_first(alloc: Global, reading: Reading, line: Line, bytes: u64) -> Result<R
 fn in_second(alloc: Global, reading: Reading, line: Line, bytes: u64) -> Result<Reading, Refusal>
     requires counted { IsCounted reading }
     requires line { bytes ≡ length (line_text line) + 1 }
-    requires few { bytes < 2 ^ 63 }
+    requires few { bytes ≤ 2 ^ 63 }
     ensures { Stands (text.bounded (text.behind_head format.Format2 (reading_of reading) line)) result }
 {
     match line {
@@ -221,7 +221,7 @@ fn in_second(alloc: Global, reading: Reading, line: Line, bytes: u64) -> Result<
 pub fn stand(alloc: Global, reading: Reading, line: Line, bytes: u64) -> Result<Reading, Refusal>
     requires counted { IsCounted reading }
     requires line { bytes ≡ length (line_text line) + 1 }
-    requires few { bytes < 2 ^ 63 }
+    requires few { bytes ≤ 2 ^ 63 }
     ensures { Stands (text.read_line (reading_of reading) line) result }
 {
     if reading.frame.ended {

@@ -1,4 +1,8 @@
 //! Why a line is refused.
+ghost use Rattle.std.specs.Prelude.{◌≡◌};
+ghost use Rattle.brisk_derivtext.specs.Kept as kept;
+
+use crate::fault::DerivFault;
 use brisk_values::NoMemory;
 
 /// Why a line can't stand.
@@ -19,5 +23,16 @@ impl From<NoMemory> for Refusal {
 
     fn from(_: NoMemory) -> Refusal {
         Refusal::NoMemory
+    }
+}
+
+/// What a refusal at this line is told as.
+pub fn fault_at(refusal: Refusal, number: u64) -> DerivFault
+    ensures { result ≡ kept.fault_at refusal number }
+{
+    match refusal {
+        Refusal::NoLine => DerivFault::Line(number),
+        Refusal::TooLong => DerivFault::TooLarge(number),
+        Refusal::NoMemory => DerivFault::NoMemory,
     }
 }

@@ -31,7 +31,11 @@ use Rattle.brisk_cli.specs.Languages.{OfCut, OfReading, OfText, OfTokens, OfTree
 use Rattle.brisk_cli.specs.Rewriting.{OfRewriting, OfSearched, budget_of, search_of}
 use Rattle.brisk_search.specs.Searched.{Searched, Sequenced, Stuck, Spent}
 use Rattle.brisk_search.proofs.Valid.{sequenced_is_valid}
+use Rattle.brisk_sound.proofs.ItemsTyped.{well_typed}
 use Rattle.brisk_sound.proofs.Top.{sound}
+use Rattle.brisk_written.specs.Written.{IsTextOf}
+use Rattle.brisk_written.proofs.Written.{valid_is_written}
+use Rattle.brisk_written.proofs.Determined.{spellings_determine}
 
 -- the bytes hold a well-typed program, of which this holds
 pub record Source (bytes : Text) (rule : Program → Type 0) : Type 0 where
@@ -78,7 +82,21 @@ module _ (limit : ℕ) (name text : Text) (next : Text → Status → Text → T
 -- ---- rewrite
 
 faithful_to : (source text : Text) → (P : Program) → IsProgramWellTyped P → (D : Steps) (Q : SeqProgram) → Valid P D Q → text ≡ layout.sequential Q → (cut : List Placed) → tokens source ≡ Ok cut → Denotes cut P → IsFaithful source text
-faithful_to source text P typed D Q valid is cut cuts holds = record { cut = cut; cuts = cuts; program = P; holds = holds; typed = typed; sequential = Q; is_layout = is; faithful = sound P D Q typed valid }
+faithful_to source text P typed D Q valid is cut cuts holds =
+    let written = subst (λ (t : Text). IsTextOf t Q) (sym is) (valid_is_written source cut P D Q cuts holds typed valid) in
+    record {
+      cut = cut;
+      cuts = cuts;
+      program = P;
+      holds = holds;
+      typed = typed;
+      sequential = Q;
+      is_layout = is;
+      is_text = written;
+      alone = λ R is_text. spellings_determine text R Q is_text written;
+      well_typed = well_typed P D Q typed valid;
+      faithful = sound P D Q typed valid;
+    }
 
 -- where success is answered, the search came to a derivation, which is valid
 sequenced : (P : Program) (text : Text) (o : Searched) → search_of P ≡ o → OfSearched (λ D Q. layout.sequential Q) P o Done text → (D : Steps) × (Q : SeqProgram) × Valid P D Q × (text ≡ layout.sequential Q)

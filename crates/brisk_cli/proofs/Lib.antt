@@ -1,5 +1,9 @@
+pub mod Decided
+pub mod Drilling
+pub mod Drills
 pub mod Headline
 pub mod Ordered
 pub mod Pieces
 pub mod Stages
 pub mod Unbegun
+pub mod Words

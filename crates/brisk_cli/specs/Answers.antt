@@ -7,7 +7,8 @@ use Rattle.brisk_cli.specs.declared.answer.Stopped.TheVariants as stopped
 use Rattle.brisk_cli.specs.declared.status.Status.{Status}
 use Rattle.brisk_cli.specs.declared.status.Status.TheVariants.{Done, Refused, Usage, BadInput, NoFile, ReadFault, WriteFault, NoMemory}
 use Rattle.brisk_cli.specs.Checks.{OfDerivation}
-use Rattle.brisk_cli.specs.Commands.{Command, Rewrite, Derive, Check, Run, Order, command_of}
+use Rattle.brisk_cli.specs.Commands.{Command, Rewrite, Derive, Check, Run, Order, Drill, command_of}
+use Rattle.brisk_cli.specs.Drills.{OfDrill}
 use Rattle.brisk_cli.specs.Files.{Text, Put}
 use Rattle.brisk_cli.specs.Languages.{OfText, sources, sequences}
 use Rattle.brisk_cli.specs.Lines.{file_line}
@@ -97,6 +98,7 @@ OfWords (Some (Derive f)) files failed status text = OfDerive f files failed sta
 OfWords (Some (Check f g h)) files failed status text = OfCheck f g h files failed status text
 OfWords (Some (Run f g)) files failed status text = OfRun f g files failed status text
 OfWords (Some (Order f g)) files failed status text = OfOrder f g files failed status text
+OfWords (Some (Drill n)) files failed status text = OfDrill n status text
 
 -- an answer, where a read failed only if the folder's count of faults rose
 pub record Replies (faults faults' : ℕ) (rule : Option ℕ → Status → Text → Type 0) (status : Status) (text : Text) : Type 0 where

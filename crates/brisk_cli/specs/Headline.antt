@@ -8,14 +8,17 @@ use Rattle.brisk_print.specs.Layout as layout
 use Rattle.brisk_syntax.specs.declared.program.Program.{Program}
 use Rattle.brisk_syntax.specs.WellTyped.{IsProgramWellTyped}
 use Rattle.brisk_seq.specs.declared.tree.SeqProgram.{SeqProgram}
+use Rattle.brisk_seq.specs.WellTyped.{IsSeqWellTyped}
 use Rattle.brisk_rules.specs.Faithful.{Faithful}
+use Rattle.brisk_written.specs.Written.{IsTextOf}
 use Rattle.brisk_cli.specs.declared.status.Status.{Status}
 use Rattle.brisk_cli.specs.declared.status.Status.TheVariants.{Done}
 use Rattle.brisk_cli.specs.Commands.{Check, Rewrite, command_of}
 use Rattle.brisk_cli.specs.Files.{Text, Put}
 
--- The source holds a well-typed program, and the text is the layout of a sequential program that is faithful to it: no state
--- of the processes that is reached is deadlocked, and the stores in which they halt are those in which it halts.
+-- The source holds a well-typed program, and the text is the layout of a well-typed sequential program, and of no other, which
+-- is faithful to it: no state of the processes that is reached is deadlocked, and the stores in which they halt are those in
+-- which it halts.
 pub record IsFaithful (source text : Text) : Type 0 where
   pub cut : List Placed
   pub cuts : tokens source ≡ Ok cut
@@ -24,6 +27,9 @@ pub record IsFaithful (source text : Text) : Type 0 where
   pub typed : IsProgramWellTyped program
   pub sequential : SeqProgram
   pub is_layout : text ≡ layout.sequential sequential
+  pub is_text : IsTextOf text sequential
+  pub alone : (other : SeqProgram) → IsTextOf text other → other ≡ sequential
+  pub well_typed : IsSeqWellTyped sequential
   pub faithful : Faithful program sequential
 
 -- the source that is there under this name is one to which what is written is faithful

@@ -1,6 +1,8 @@
 pub mod Answers
 pub mod Checks
 pub mod Commands
+pub mod Decided
+pub mod Drills
 pub mod Files
 pub mod Formats
 pub mod Headline

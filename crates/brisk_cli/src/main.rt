@@ -7,6 +7,7 @@ mod commands;
 #[cfg(test)]
 mod derivations;
 mod derived;
+mod drilled;
 mod faults;
 mod files;
 mod invalid;

@@ -1,18 +1,84 @@
 //! All that the program does.
-ghost use Rattle.std.specs.Prelude.{◌≡◌, IfSome, map};
+ghost use Rattle.std.specs.Prelude.{◌≡◌, ◌∷◌, [], IfSome, codes, map};
 ghost use Rattle.std.specs.String.{string_bytes};
 ghost use Rattle.brisk_io.specs.Causes.{Rose};
 ghost use Rattle.brisk_cli.specs.Answers.{Answered, IfAnswer, IsDueFor, IsServed, OfWords, Replies};
 ghost use Rattle.brisk_cli.specs.Commands.{command_of};
+ghost use Rattle.brisk_cli.specs.Decided.{StraightsAreDecided};
 ghost use Rattle.brisk_cli.specs.Headline.{Headline};
 
 use crate::answer::{Answer, Stopped};
 use crate::commands::{check, derive, order, rewrite, run};
+use crate::drilled::drill;
 use crate::files::write_all;
 use crate::status::Status;
 use brisk_io::{Folder, Sink};
 use brisk_values::NoMemory;
 use std::alloc::Global;
+
+// The answer for words that have no form.
+fn usage(alloc: Global) -> Result<Answer, Stopped>
+    ensures { IfAnswer (λ status text. (status ≡ Status.Usage) × (text ≡ codes "usage\n")) result }
+{
+    Ok(Answer::new(alloc, Status::Usage, b"usage\n")?)
+}
+
+// What is answered for two words.
+fn of_two<F: Folder>(
+    alloc: Global,
+    folder: &mut F,
+    word: &str,
+    first: &str,
+) -> Result<Answer, Stopped>
+    ensures due { IfAnswer (λ status text. IsDueFor (command_of (word.now ∷ first.now ∷ [])) (F.misses folder.old) (F.misses folder.new) (F.faults folder.old) (F.faults folder.new) status) result }
+    ensures told { IfSome (F.files folder.old) (λ files. IfAnswer (Replies (F.faults folder.old) (F.faults folder.new) (OfWords (command_of (word.now ∷ first.now ∷ [])) files)) result) }
+{
+    if word == "rewrite" {
+        return rewrite(alloc, folder, first);
+    }
+    if word == "derive" {
+        return derive(alloc, folder, first);
+    }
+    drill(alloc, word, first)
+}
+
+// What is answered for three words.
+fn of_three<F: Folder>(
+    alloc: Global,
+    folder: &mut F,
+    word: &str,
+    first: &str,
+    second: &str,
+) -> Result<Answer, Stopped>
+    ensures due { IfAnswer (λ status text. IsDueFor (command_of (word.now ∷ first.now ∷ second.now ∷ [])) (F.misses folder.old) (F.misses folder.new) (F.faults folder.old) (F.faults folder.new) status) result }
+    ensures told { IfSome (F.files folder.old) (λ files. IfAnswer (Replies (F.faults folder.old) (F.faults folder.new) (OfWords (command_of (word.now ∷ first.now ∷ second.now ∷ [])) files)) result) }
+{
+    if word == "run" {
+        return run(alloc, folder, first, second);
+    }
+    if word == "order" {
+        return order(alloc, folder, first, second);
+    }
+    usage(alloc)
+}
+
+// What is answered for four words.
+fn of_four<F: Folder>(
+    alloc: Global,
+    folder: &mut F,
+    word: &str,
+    first: &str,
+    second: &str,
+    third: &str,
+) -> Result<Answer, Stopped>
+    ensures due { IfAnswer (λ status text. IsDueFor (command_of (word.now ∷ first.now ∷ second.now ∷ third.now ∷ [])) (F.misses folder.old) (F.misses folder.new) (F.faults folder.old) (F.faults folder.new) status) result }
+    ensures told { IfSome (F.files folder.old) (λ files. IfAnswer (Replies (F.faults folder.old) (F.faults folder.new) (OfWords (command_of (word.now ∷ first.now ∷ second.now ∷ third.now ∷ [])) files)) result) }
+{
+    if word == "check" {
+        return check(alloc, folder, first, second, third);
+    }
+    usage(alloc)
+}
 
 // What is answered for words.
 fn of_words<F: Folder>(alloc: Global, words: &[String], folder: &mut F) -> Result<Answer, Stopped>
@@ -20,36 +86,24 @@ fn of_words<F: Folder>(alloc: Global, words: &[String], folder: &mut F) -> Resul
     ensures told { IfSome (F.files folder.old) (λ files. IfAnswer (Replies (F.faults folder.old) (F.faults folder.new) (OfWords (command_of (map string_bytes words.now)) files)) result) }
 {
     match words {
-        [word, name] => {
-            if word.as_str() == "rewrite" {
-                return rewrite(alloc, folder, name.as_str());
-            }
-            if word.as_str() == "derive" {
-                return derive(alloc, folder, name.as_str());
-            }
-        }
-        [word, name, second] => {
-            if word.as_str() == "run" {
-                return run(alloc, folder, name.as_str(), second.as_str());
-            }
-            if word.as_str() == "order" {
-                return order(alloc, folder, name.as_str(), second.as_str());
-            }
-        }
-        [word, name, second, third] => {
-            if word.as_str() == "check" {
-                return check(
-                    alloc,
-                    folder,
-                    name.as_str(),
-                    second.as_str(),
-                    third.as_str(),
-                );
-            }
-        }
-        _ => {}
+        [word, first] => of_two(alloc, folder, word.as_str(), first.as_str()),
+        [word, first, second] => of_three(
+            alloc,
+            folder,
+            word.as_str(),
+            first.as_str(),
+            second.as_str(),
+        ),
+        [word, first, second, third] => of_four(
+            alloc,
+            folder,
+            word.as_str(),
+            first.as_str(),
+            second.as_str(),
+            third.as_str(),
+        ),
+        _ => usage(alloc),
     }
-    Ok(Answer::new(alloc, Status::Usage, b"usage\n")?)
 }
 
 // Makes the whole answer, and then writes it.
@@ -94,6 +148,8 @@ pub fn serve<F: Folder, O: Sink>(
     ensures answered { Answered (map string_bytes words.now) (F.files folder.old) (F.faults folder.old) (F.faults folder.new) (O.written out.old) (O.written out.new) result }
     // what `rewrite` writes with the status of success, and what `check` takes, is faithful to the processes
     ensures faithful { Headline (map string_bytes words.now) (F.files folder.old) (O.written out.old) (O.written out.new) result }
+    // a straight program is refused only where its processes deadlock, and a schedule into the deadlock is written then
+    ensures decided { StraightsAreDecided (map string_bytes words.now) (F.files folder.old) (O.written out.old) (O.written out.new) result }
 {
     answer_words(alloc, words, folder, out)
 }

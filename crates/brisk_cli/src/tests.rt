@@ -178,6 +178,25 @@ end
 }
 
 #[test]
+fn a_drill_has_its_line(rt: HostRuntime) -> Result<(), Fail> {
+    for (text, line) in [
+        (
+            "drill 1",
+            "drill 1: 4 roles, 9 statements, 6 steps, valid\n",
+        ),
+        (
+            "drill 17",
+            "drill 17: 20 roles, 153 statements, 102 steps, valid\n",
+        ),
+    ] {
+        let (status, written) = served(rt.alloc(), text, b"")?;
+        assert_eq!(rt; status, Status::Done, "of {text}");
+        assert_eq!(rt; written.as_slice(), line.as_bytes(), "of {text}");
+    }
+    Ok(())
+}
+
+#[test]
 fn other_words_are_usage(rt: HostRuntime) -> Result<(), Fail> {
     for text in [
         "",
@@ -188,6 +207,11 @@ fn other_words_are_usage(rt: HostRuntime) -> Result<(), Fail> {
         "derive F F",
         "check F F",
         "check F F F F",
+        "drill",
+        "drill 0",
+        "drill 02",
+        "drill 251",
+        "drill 2 2",
         "--help",
     ] {
         let (status, written) = served(rt.alloc(), text, b"")?;

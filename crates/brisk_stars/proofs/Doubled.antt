@@ -205,12 +205,12 @@ module _ (P : Program) (r : RoleText) (source : IsStarSource P) (centre : IsCent
   abbrev turn : List Word
   turn = turn_words l.gather (single l.gather.set)
 
-  fits : every in_centre l.before ≡ true
+  pub fits : every in_centre l.before ≡ true
   fits =
       let f = found P r 1 (omega arith) source centre in
       every_front in_centre l.before _ (ap (every in_centre) (sym l.parts) ∙ ap (λ b. every (if b then talks_to (is_named M) else in_centre) r.code) (sym f.1) ∙ (each_named (fits_star M) P.roles M r (all_fit P r 1 (omega arith) source centre) f.0).0)
 
-  unbegun : all_unbegun l.before ≡ true
+  pub unbegun : all_unbegun l.before ≡ true
   unbegun = unbegun_front l.before _ (ap all_unbegun (sym l.parts) ∙ (each_named (λ (z : RoleText). all_unbegun z.code) P.roles M r source.unbegun (found P r 1 (omega arith) source centre).0).0)
 
   -- a role has members at size two where it has them at size one

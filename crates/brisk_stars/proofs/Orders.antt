@@ -2,6 +2,7 @@
 use Rattle.std.proofs.Common.{◌≡◌, ◌⊎◌, inl, inr, ℕ, Bool, true, false, List, [], ◌∷◌, ◌++◌, map, flat_map, length, Option, Some, None, refl, sym, ap, ◌∙◌, subst}
 use Rattle.std.specs.Prelude.{◌&&◌, if◌then◌else◌, option_and_then, option_map}
 use Rattle.std.specs.List.{AllByRecursion}
+use Rattle.std.proofs.lemmas.Option.{same_Some}
 use Rattle.brisk_values.specs.declared.value.Pid.{Pid}
 use Rattle.brisk_values.specs.Names.{Name, same_name, single}
 use Rattle.brisk_values.proofs.Changes.{both_true, exact_name}
@@ -44,6 +45,15 @@ found_in Q s (x ∷ xs) f all h =
       | None ↦ λ g. found_in Q s xs f all.1 g
       | Some t ↦ λ g. (let is : x ≡ f.0 = cc in subst Q is all.0)
     ] h
+
+-- and leads to the state that is found with it
+pub found_leads : (s : State) (es : List Event) (f : Event × State) → first_enabled s es ≡ Some f → step s f.0 ≡ Some f.1
+found_leads s [] f h = cc
+found_leads s (x ∷ xs) f h =
+    elim (step s x) as (λ o. step s x ≡ o → or_else x o (first_enabled s xs) ≡ Some f → step s f.0 ≡ Some f.1) [
+      | None ↦ λ e g. found_leads s xs f g
+      | Some t ↦ λ e g. (let is : (x, t) ≡ f = same_Some (x, t) f g in ap (λ (z : Event × State). step s z.0) (sym is) ∙ e ∙ ap (λ (z : Event × State). Some z.1) is)
+    ] refl h
 
 from_senders : (p : Pid) (place : Option ℕ) (ws : List Pid) → AllByRecursion (λ (e : Event). e.process ≡ p) (map (λ (w : Pid). record { process = p; sender = Some w; place = place }) ws)
 from_senders p place [] = tt

@@ -10,9 +10,9 @@ use Rattle.brisk_search.specs.Drives as drive
 use Rattle.brisk_search.specs.Drives.{Way}
 use Rattle.brisk_search.specs.Passes.{first_pass}
 use Rattle.brisk_search.specs.Searched.{Sequenced, Stuck, searched}
-use Rattle.brisk_stars.specs.Overtaking.{IsLeftOver, LeftOverOvertakes}
+use Rattle.brisk_stars.specs.Overtaking.{IsLeftOver}
 use Rattle.brisk_stars.specs.Runs.{IsUnserved, served_in}
-use Rattle.brisk_stars.specs.Sources.{IsCentre, IsStarSource, PlainRunDeadlocks, PlainRunOvertakes, UnservedStarsDeadlock, plain_start}
+use Rattle.brisk_stars.specs.Sources.{IsCentre, IsStarSource, PlainRunDeadlocks, PlainRunOvertakes, plain_start}
 
 -- how pass one ends on a star: it reaches the end; or it is stuck, and the star is left unserved at its start, or something is left over
 pub data PassEnds (P : Program) (r : RoleText) : Type 0 where
@@ -34,19 +34,3 @@ IsRefused P budget = (R : Report) × (searched P budget ≡ Stuck R) × (PlainRu
 -- stars are never refused emptily, whatever the budget
 abbrev pub StarsAreNeverRefusedEmptily : Type 0
 StarsAreNeverRefusedEmptily = (P : Program) (budget : ℕ) → IsStarSource P → IsSequenced P budget ⊎ IsRefused P budget
-
--- the search is stuck, and the plain run at size one deadlocks, or at some gather of the centre a message is left over
-abbrev pub IsRefusedForCause : Program → ℕ → Type 0
-IsRefusedForCause P budget = (R : Report) × (searched P budget ≡ Stuck R) × (PlainRunDeadlocks P ⊎ ((r : RoleText) × IsCentre P r × IsLeftOver P r))
-
--- a star is sequenced, or refused for such a cause, whatever the budget
-abbrev pub StarsAreRefusedForCause : Type 0
-StarsAreRefusedForCause = (P : Program) (budget : ℕ) → IsStarSource P → IsSequenced P budget ⊎ IsRefusedForCause P budget
-
--- the one part that is wanting
-abbrev pub RestsOnOvertaking : Type 0
-RestsOnOvertaking = LeftOverOvertakes → StarsAreNeverRefusedEmptily
-
--- the three parts from which it follows
-abbrev pub FromItsParts : Type 0
-FromItsParts = PassesEnd → UnservedStarsDeadlock → LeftOverOvertakes → StarsAreNeverRefusedEmptily

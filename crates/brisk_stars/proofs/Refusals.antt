@@ -1,4 +1,4 @@
--- Stars are never refused emptily, from what the search and what the machine does.
+-- Stars are never refused emptily: pass one ends at the end of all code, or with what a plain run shows.
 use Rattle.std.proofs.Common.{◌≡◌, ◌⊎◌, inl, inr, Bool, true, false, List, [], ◌∷◌, filter, None, refl, ap, ◌∙◌}
 use Rattle.std.specs.Prelude.{◌||◌, not}
 use Rattle.brisk_values.proofs.Changes.{both_true}
@@ -8,8 +8,11 @@ use Rattle.brisk_syntax.specs.Roles.{RoleText}
 use Rattle.brisk_rules.specs.Derives.{sequential}
 use Rattle.brisk_search.specs.Passes.{first_pass}
 use Rattle.brisk_search.specs.Searched.{answer, passes, searched}
-use Rattle.brisk_stars.specs.Sources.{IsCentre, UnservedStarsDeadlock}
-use Rattle.brisk_stars.specs.Stars.{FromItsParts, IsRefusedForCause, IsSequenced, PassEnds, PassesEnd, StarsAreRefusedForCause, reached, unserved, left_over}
+use Rattle.brisk_stars.specs.Sources.{IsCentre}
+use Rattle.brisk_stars.specs.Stars.{IsRefused, IsSequenced, PassEnds, StarsAreNeverRefusedEmptily, reached, unserved, left_over}
+use Rattle.brisk_stars.proofs.Ending.{unserved_stars_deadlock}
+use Rattle.brisk_stars.proofs.Overtaken.{left_over_overtakes}
+use Rattle.brisk_stars.proofs.Passes.{passes_end}
 use Rattle.std.proofs.Math.Bool.{or-true}
 
 -- a star has a centre
@@ -21,9 +24,8 @@ a_centre P h = by (filter (λ (r : RoleText). not r.many) P.roles) refl (both_tr
     by (r ∷ []) e g = (r, e)
     by (r ∷ (q ∷ rs)) e g = cc
 
--- a star is sequenced, or refused for a cause
-pub for_cause : PassesEnd → UnservedStarsDeadlock → StarsAreRefusedForCause
-for_cause passes_end deadlocks P budget source = by (passes_end P c.0 source c.1)
+pub stars_are_never_refused_emptily : StarsAreNeverRefusedEmptily
+stars_are_never_refused_emptily P budget source = by (passes_end P c.0 source c.1)
   where
     c : (r : RoleText) × IsCentre P r
     c = a_centre P source.star
@@ -31,21 +33,7 @@ for_cause passes_end deadlocks P budget source = by (passes_end P c.0 source c.1
     one_pass : searched P budget ≡ answer P (first_pass P None)
     one_pass = ap (λ b. answer P (passes b P budget)) (ap (λ b. is_straight P || b) source.star ∙ or-true (is_straight P))
 
-    by : PassEnds P c.0 → IsSequenced P budget ⊎ IsRefusedForCause P budget
+    by : PassEnds P c.0 → IsSequenced P budget ⊎ IsRefused P budget
     by (reached w is) = inl (w.steps, sequential P w.items, one_pass ∙ ap (answer P) is)
-    by (unserved w tries is h) = inr (record { steps = w.steps; tries = tries }, one_pass ∙ ap (answer P) is, inl (deadlocks P c.0 source c.1 h))
-    by (left_over w tries is h) = inr (record { steps = w.steps; tries = tries }, one_pass ∙ ap (answer P) is, inr (c.0, c.1, h))
-
-pub from_its_parts : FromItsParts
-from_its_parts passes_end deadlocks overtakes P budget source =
-    elim (for_cause passes_end deadlocks P budget source) [
-      | inl s ↦ inl s
-      | inr x ↦ inr (
-        x.0,
-        x.1,
-        elim x.2 [
-          | inl d ↦ inl d
-          | inr o ↦ inr (overtakes P o.0 source o.1 o.2)
-        ],
-      )
-    ]
+    by (unserved w tries is h) = inr (record { steps = w.steps; tries = tries }, one_pass ∙ ap (answer P) is, inl (unserved_stars_deadlock P c.0 source c.1 h))
+    by (left_over w tries is h) = inr (record { steps = w.steps; tries = tries }, one_pass ∙ ap (answer P) is, inr (left_over_overtakes P c.0 source c.1 h))

@@ -1,5 +1,5 @@
--- A straight program that is refused deadlocks.
-use Rattle.std.proofs.Common.{◌≡◌, ◌≤◌, ℕ, true, false, List, [], ◌∷◌, length, Option, Some, None, inl, inr, refl, sym, ap, ◌∙◌, subst, arith, Bool}
+-- A straight program that is refused deadlocks, and a star deadlocks or overtakes.
+use Rattle.std.proofs.Common.{◌≡◌, ◌⊎◌, ◌≤◌, ℕ, true, false, List, [], ◌∷◌, length, Option, Some, None, inl, inr, refl, sym, ap, ◌∙◌, subst, arith, Bool}
 use Rattle.std.specs.Prelude.{Result, Ok, Err, nat_le}
 use Rattle.std.specs.List.{AllByRecursion}
 use Rattle.brisk_io.specs.Causes.{Files}
@@ -14,7 +14,7 @@ use Rattle.brisk_types.specs.declared.fault.TypeFault.{TypeFault}
 use Rattle.brisk_types.specs.Declarations.{failures}
 use Rattle.brisk_types.specs.Failures.{IsChecked}
 use Rattle.brisk_types.proofs.Agreeing.{is_typed}
-use Rattle.brisk_syntax.specs.Classes.{is_straight}
+use Rattle.brisk_syntax.specs.Classes.{is_star, is_straight}
 use Rattle.brisk_syntax.specs.declared.program.Program.{Program}
 use Rattle.brisk_syntax.specs.Depths.{code_depth}
 use Rattle.brisk_syntax.specs.Roles.{RoleText}
@@ -24,19 +24,21 @@ use Rattle.brisk_derivation.specs.declared.report.Report.{Report}
 use Rattle.brisk_derivation.specs.Steps.{Steps}
 use Rattle.brisk_derivtext.specs.Texts.{derivation_text}
 use Rattle.brisk_print.specs.Layout.{sequential}
-use Rattle.brisk_answered.specs.Answered.{IsRefused, IsSequenced, PlainRunDeadlocks}
+use Rattle.brisk_answered.specs.Answered.{PlainRunDeadlocks}
 use Rattle.brisk_answered.proofs.Answered.{never_refused_emptily}
 use Rattle.brisk_search.specs.Searched.{Searched, Sequenced, Stuck, Spent, searched}
 use Rattle.brisk_straight.specs.Sources.{IsStraightSource}
+use Rattle.brisk_stars.specs.Sources.{IsStarSource, PlainRunOvertakes}
+use Rattle.brisk_stars.proofs.Refusals.{stars_are_never_refused_emptily}
 use Rattle.brisk_cli.specs.declared.status.Status.{Status}
 use Rattle.brisk_cli.specs.declared.status.Status.TheVariants.{Refused}
 use Rattle.brisk_cli.specs.Answers.{Answered, OfDerive, OfFile, OfRewrite, OfSized, OfWords, is_failed, source_limit}
 use Rattle.brisk_cli.specs.Commands.{Command, Derive, Rewrite, command_of}
-use Rattle.brisk_cli.specs.Decided.{IsDecided, IsRefusedFor, StraightsAreDecided}
+use Rattle.brisk_cli.specs.Decided.{IsDecided, IsRefusedFor, RefusalsAreShown}
 use Rattle.brisk_cli.specs.Files.{Put, Text}
 use Rattle.brisk_cli.specs.Languages.{OfCut, OfReading, OfText, OfTokens, OfTree, OfTyping, sources}
-use Rattle.brisk_cli.specs.Rewriting.{OfDeadlock, OfRefusal, OfSearched, budget_of, last_text, search_of}
-use Rattle.brisk_cli.proofs.Unbegun.{tagged}
+use Rattle.brisk_cli.specs.Rewriting.{OfDeadlock, OfOvertaking, OfRefusal, OfSearched, budget_of, last_text, search_of}
+use Rattle.brisk_cli.proofs.Unbegun.{tagged, unbegun}
 
 -- ---- a straight program
 
@@ -54,6 +56,17 @@ is_source cut P holds typed straight =
       nesting = few_deep P.roles holds.within.each_role;
     }
 
+is_star_source : (cut : List Placed) (P : Program) → Denotes cut P → IsProgramWellTyped P → is_star P ≡ true → IsStarSource P
+is_star_source cut P holds typed star =
+    record {
+      typed = typed;
+      tagged = tagged P holds.levelled;
+      star = star;
+      unbegun = unbegun P holds.levelled;
+      statements = holds.within.statements;
+      nesting = few_deep P.roles holds.within.each_role;
+    }
+
 module _ (done : Steps → SeqProgram → Text) (P : Program) (text : Text) where
   -- the plain run deadlocks, so its text is told
   deadlock_told : (last : Text) → PlainRunDeadlocks P → OfRefusal P last Refused text → OfDeadlock P text
@@ -65,6 +78,19 @@ module _ (done : Steps → SeqProgram → Text) (P : Program) (text : Text) wher
 
   pub decided : IsStraightSource P → OfSearched done P (search_of P) Refused text → OfDeadlock P text
   decided source h = elim (never_refused_emptily P (budget_of P) source) [ inl s ↦ absurd (sequenced_done s.0 s.1 (search_of P) s.2 h) | inr r ↦ deadlock_told (last_text P (Some r.0)) r.2 (subst (λ (o : Searched). OfSearched done P o Refused text) r.1 h) ]
+
+  -- a plain run shows why, so its text is told
+  overtaking_told : (last : Text) → PlainRunDeadlocks P ⊎ PlainRunOvertakes P → is_star P ≡ true → OfRefusal P last Refused text → OfDeadlock P text ⊎ OfOvertaking P text
+  overtaking_told last shown star (same, inl h) = inl h
+  overtaking_told last (inl deadlocks) star (same, inr h) = absurd (h.0 deadlocks)
+  overtaking_told last (inr overtakes) star (same, inr h) = elim h.1 [ inl o ↦ inr o.1 | inr never ↦ absurd (never.0 star overtakes) ]
+
+  pub star_decided : IsStarSource P → OfSearched done P (search_of P) Refused text → OfDeadlock P text ⊎ OfOvertaking P text
+  star_decided source h =
+      elim (stars_are_never_refused_emptily P (budget_of P) source) [
+        | inl s ↦ absurd (sequenced_done s.0 s.1 (search_of P) s.2 h)
+        | inr r ↦ overtaking_told (last_text P (Some r.0)) r.2 source.star (subst (λ (o : Searched). OfSearched done P o Refused text) r.1 h)
+      ]
 
 -- ---- a source that is refused
 
@@ -81,7 +107,8 @@ module _ (done : Program → Steps → SeqProgram → Text) (bytes text : Text) 
           program = P;
           holds = holds;
           typed = is_typed P checked;
-          decided = λ straight. decided (done P) P text (is_source ts P holds (is_typed P checked) straight) h;
+          straight = λ straight. decided (done P) P text (is_source ts P holds (is_typed P checked) straight) h;
+          star = λ star. star_decided (done P) P text (is_star_source ts P holds (is_typed P checked) star) h;
         }
     of_typing P holds (Err fault) checked h = let e = h.0 in cc
 
@@ -116,7 +143,7 @@ module _ (done : Program → Steps → SeqProgram → Text) (files : Files) (old
       let x = of_file source_limit f text (λ bytes. OfText sources bytes (λ P. OfSearched (done P) P (search_of P))) (files f) (is_failed 0 failed) h in
       (x.0, text, x.1, of_source done x.0 text x.2, wrote)
 
-pub straights_are_decided : (words : List Text) (files : Option Files) (faults faults' : ℕ) (old new : Option Text) (status : Status) → Answered words files faults faults' old new status → StraightsAreDecided words files old new status
+pub straights_are_decided : (words : List Text) (files : Option Files) (faults faults' : ℕ) (old new : Option Text) (status : Status) → Answered words files faults faults' old new status → RefusalsAreShown words files old new status
 straights_are_decided words (Some files) faults faults' old new Refused h =
     let failed = h.tells.failed in
     let refused = subst (λ (s : Status). OfWords (command_of words) files failed s h.text) (sym h.is_status) h.tells.answer in

@@ -4,7 +4,7 @@ ghost use Rattle.std.specs.String.{string_bytes};
 ghost use Rattle.brisk_io.specs.Causes.{Rose};
 ghost use Rattle.brisk_cli.specs.Answers.{Answered, IfAnswer, IsDueFor, IsServed, OfWords, Replies};
 ghost use Rattle.brisk_cli.specs.Commands.{command_of};
-ghost use Rattle.brisk_cli.specs.Decided.{StraightsAreDecided};
+ghost use Rattle.brisk_cli.specs.Decided.{RefusalsAreShown};
 ghost use Rattle.brisk_cli.specs.Headline.{Headline};
 
 use crate::answer::{Answer, Stopped};
@@ -148,8 +148,8 @@ pub fn serve<F: Folder, O: Sink>(
     ensures answered { Answered (map string_bytes words.now) (F.files folder.old) (F.faults folder.old) (F.faults folder.new) (O.written out.old) (O.written out.new) result }
     // what `rewrite` writes with the status of success, and what `check` takes, is faithful to the processes
     ensures faithful { Headline (map string_bytes words.now) (F.files folder.old) (O.written out.old) (O.written out.new) result }
-    // a straight program is refused only where its processes deadlock, and a schedule into the deadlock is written then
-    ensures decided { StraightsAreDecided (map string_bytes words.now) (F.files folder.old) (O.written out.old) (O.written out.new) result }
+    // a straight program is refused only with a schedule into its deadlock, and a star with one or with one in which a member overtakes
+    ensures decided { RefusalsAreShown (map string_bytes words.now) (F.files folder.old) (O.written out.old) (O.written out.new) result }
 {
     answer_words(alloc, words, folder, out)
 }

@@ -1,6 +1,8 @@
-//! Tests of derivations: searched, written, read back, checked.
+//! Tests of derivations: searched, written, read back, checked, walked and unfolded.
 #![tactic(auto)]
 
+#[cfg(test)]
+mod drills;
 #[cfg(test)]
 mod found;
 #[cfg(test)]

@@ -8,4 +8,12 @@ mod found;
 #[cfg(test)]
 mod judged;
 #[cfg(test)]
+mod nested;
+#[cfg(test)]
 mod programs;
+#[cfg(test)]
+mod repeated;
+#[cfg(test)]
+mod unfolded;
+#[cfg(test)]
+mod walked;

@@ -16,6 +16,8 @@ mod rewritten;
 mod run;
 mod sequenced;
 mod serve;
+#[cfg(test)]
+mod simple;
 mod source;
 mod status;
 #[cfg(test)]

@@ -56,7 +56,7 @@ pub fn words(alloc: Global, text: &str) -> Result<Vec<String>, Fail> {
 }
 
 // The status and the text for these words, where the file F has these bytes.
-fn served(alloc: Global, text: &str, bytes: &[u8]) -> Result<(Status, Vec<u8>), Fail> {
+pub fn served(alloc: Global, text: &str, bytes: &[u8]) -> Result<(Status, Vec<u8>), Fail> {
     let mut folder = folder(alloc, bytes, &[])?;
     let mut out = MemSink::new(alloc, 4096, 100, Vec::new(alloc))?;
     let status = serve(alloc, &words(alloc, text)?, &mut folder, &mut out);

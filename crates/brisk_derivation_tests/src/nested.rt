@@ -1,9 +1,10 @@
 //! Rules that nest: so deep as is allowed, and one deeper.
 use brisk_check::check;
-use brisk_derivation::{SideFault, count_steps};
-use brisk_derivtext::read;
-use brisk_loops::{Why, accept};
+use brisk_derivation::{SideFault, Step, count_steps};
+use brisk_derivtext::{no_steps, read};
+use brisk_loops::{AcceptFault, Walk, Why, accept};
 use brisk_test_texts::program_of;
+use brisk_values::Name;
 use std::alloc::Global;
 use std::test::Fail;
 
@@ -81,5 +82,26 @@ fn rules_nest_1024_deep_in_a_text(rt: HostRuntime) -> Result<(), Fail> {
     let alloc = rt.alloc();
     let steps = read(alloc, &branches(alloc, 1024, false)?)?;
     assert_eq!(rt; count_steps(&steps), 1024);
+    Ok(())
+}
+
+#[test]
+fn a_walk_refuses_the_rule_at_depth_257(rt: HostRuntime) -> Result<(), Fail> {
+    let alloc = rt.alloc();
+    let program = program_of(alloc, &choices(alloc, 257)?)?;
+    let branch = Step::Branch(Name::of(b"A"), no_steps(alloc), no_steps(alloc));
+    let mut walk = Walk::start(alloc, &program)?;
+    for _ in 0..256 {
+        walk.enter(&branch)?;
+    }
+    let too_deep = AcceptFault::Bad(258, Why::Side(SideFault::TooDeep));
+    assert_eq!(rt; walk.enter(&branch), Err(too_deep));
+    assert_eq!(rt; walk.depth(), 256);
+    if walk.depth() > 0 {
+        walk.back();
+    }
+    assert_eq!(rt; walk.depth(), 255);
+    walk.enter(&branch)?;
+    assert_eq!(rt; walk.enter(&branch), Err(too_deep));
     Ok(())
 }

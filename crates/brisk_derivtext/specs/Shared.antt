@@ -56,10 +56,15 @@ parts_of a = met_again (meet_all [] a)
 abbrev pub part_name : ℕ → Name
 part_name k = codes "p" ++ decimal k
 
--- the name of the part that a step is, where these are the parts so far, the last first
+-- the name of the part that a step is, where the first of these parts has the number k
+abbrev pub name_from : ℕ → List Step → Step → Option Name
+name_from k [] s = None
+name_from k (p ∷ ps) s = if same_step p s then Some (part_name k) else name_from (k + 1) ps s
+
+-- the same; a step by a basic rule is no part
 abbrev pub name_of : List Step → Step → Option Name
-name_of [] s = None
-name_of (p ∷ before) s = if same_step p s then Some (part_name (length before + 1)) else name_of before s
+name_of ps (Basic b) = None
+name_of ps s = name_from 1 ps s
 
 -- the use of a part, if there is one, or else this place
 abbrev pub used : Option Name → Place → Place
@@ -87,17 +92,12 @@ part before p = record { name = part_name (length before + 1); places = opened b
 
 abbrev pub written : List Step → List Step → List Written
 written before [] = []
-written before (p ∷ more) = part before p ∷ written (p ∷ before) more
-
--- parts behind those before them, the last first
-abbrev pub behind : List Step → List Step → List Step
-behind before [] = before
-behind before (p ∷ more) = behind (p ∷ before) more
+written before (p ∷ more) = part before p ∷ written (before ++ p ∷ []) more
 
 -- the lines and the text of a derivation in format 2
 abbrev pub second_lines : Steps → List Line
 second_lines D =
-    Head Format2 ∷ (parts_lines (written [] (parts_of D)) ++ (places_lines (shared (behind [] (parts_of D)) D) ++ End ∷ []))
+    Head Format2 ∷ (parts_lines (written [] (parts_of D)) ++ (places_lines (shared (parts_of D) D) ++ End ∷ []))
 
 abbrev pub second_text : Steps → Text
 second_text D = text_of_lines (second_lines D)

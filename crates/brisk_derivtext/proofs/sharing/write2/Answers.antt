@@ -13,7 +13,7 @@ returns c =
     let one = ap steps_at c.deref.ensures.value in
     let two = ap steps_at c.deref-2.ensures.value in
     second_written D (steps_at c.in_ok-parts.parts.items) _ _ _ _ c.in_ok-parts.ensures
-        (c.in_ok-put.ensures ∙ ap (λ z. z ++ codes "brisk derivation 2\n") c.new-out.ensures.items)
-        (c.in_ok-put_parts.ensures ∙ ap (λ z. c.put.new.out.items ++ text_of_lines (parts_lines (written [] z))) one)
-        (c.in_ok-put_shared.ensures ∙ ap (λ z. c.put_parts.new.out.items ++ text_of_lines (places_lines (shared z D))) two)
-        c.in_ok-put-2.ensures
+    (c.in_ok-put.ensures ∙ ap (λ z. z ++ codes "brisk derivation 2\n") c.new-out.ensures.items)
+    (c.in_ok-put_parts.ensures ∙ ap (λ z. c.put.new.out.items ++ text_of_lines (parts_lines (written [] z))) one)
+    (c.in_ok-put_shared.ensures ∙ ap (λ z. c.put_parts.new.out.items ++ text_of_lines (places_lines (shared z D))) two)
+    c.in_ok-put-2.ensures

@@ -1,3 +1,4 @@
+pub mod Alone
 pub mod Decided
 pub mod Drilling
 pub mod Drills

@@ -11,3 +11,4 @@ pub mod Lines
 pub mod Orders
 pub mod Rewriting
 pub mod Runs
+pub mod Upgrades

@@ -22,6 +22,7 @@ mod source;
 mod status;
 #[cfg(test)]
 mod tests;
+mod upgraded;
 
 use brisk_io::{RealFolder, RealSink};
 use serve::serve;

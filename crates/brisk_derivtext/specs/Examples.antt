@@ -12,6 +12,7 @@ use Rattle.brisk_derivtext.specs.declared.line.Line.{Line}
 use Rattle.brisk_derivtext.specs.declared.line.Line.TheVariants.{Head, Plain, Fork, Enter, Else, Join, Close, End, Part, EndPart, Use}
 use Rattle.brisk_derivtext.specs.Lines.{line_text}
 use Rattle.brisk_derivtext.specs.Reading.{Reading, start, next}
+use Rattle.brisk_derivtext.specs.Shared.{second_text}
 use Rattle.brisk_derivtext.specs.Texts.{derivation_text, derivation_lines, text_of_lines}
 
 abbrev A : Name
@@ -144,3 +145,21 @@ same_part = refl
 
 part_in_format_1 : steps_after (Head Format1 ∷ Part T ∷ []) ≡ None
 part_in_format_1 = refl
+
+-- what is written in format 2: the steps that stand twice are a part
+asks_written : second_text (asks (asks no_steps)) ≡ codes "brisk derivation 2\npart p1\nfor Ws by H drop\npass H Ws T\nclose\nendpart\nuse p1\nuse p1\nend\n"
+unfolding digits
+asks_written = refl
+
+-- a step that stands twice only in one that does is a part too, and those inside come first
+abbrev turns : Steps → Steps
+turns rest = tree.While M [] (asks no_steps) ▷ rest
+
+turns_written : second_text (turns (turns no_steps)) ≡ codes "brisk derivation 2\npart p1\nfor Ws by H drop\npass H Ws T\nclose\nendpart\npart p2\nwhile M drop\nuse p1\nclose\nendpart\nuse p2\nuse p2\nend\n"
+unfolding digits
+turns_written = refl
+
+-- where no compound step stands twice there is no part
+late_box_written : second_text late_box ≡ codes "brisk derivation 2\nfill A B T 1\nassign A\npass A B G\ntake A B T\nend\n"
+unfolding digits
+late_box_written = refl

@@ -12,6 +12,7 @@ use Rattle.brisk_lines.specs.Lines.{Reads}
 use Rattle.brisk_derivtext.specs.Parts.{IsText2}
 use Rattle.brisk_derivtext.specs.Parsing.{line_in}
 use Rattle.brisk_derivtext.specs.Reading.{Reading, ComesTo, Fails, IsRead, TextFault}
+use Rattle.brisk_derivtext.specs.Shared.{second_text}
 use Rattle.brisk_derivtext.specs.Texts.{lines_of, derivation_lines, most_nested, HasText, IsTextOf}
 
 -- two legal lines with one text are the same
@@ -65,3 +66,7 @@ GrammarIsRead = (text : Text) (D : Steps) → IsText2 text D → IsRead Format2 
 -- what is read in format 2 is a text by its grammar
 abbrev pub ReadIsGrammar : Type 0
 ReadIsGrammar = (text : Text) (D : Steps) → IsRead Format2 text D → IsText2 text D
+
+-- what is written in format 2 is read back
+abbrev pub SecondIsRead : Type 0
+SecondIsRead = (D : Steps) → HasText D → IsRead Format2 (second_text D) D

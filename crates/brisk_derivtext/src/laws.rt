@@ -1,5 +1,5 @@
 //! What holds of derivation texts. The functions do nothing.
-ghost use Rattle.brisk_derivtext.specs.Laws.{BeginningsStand, FailsOnce, GrammarIsRead, LinesAreCut, LinesAreFound, LinesBegin, LinesDiffer, ReadIsGrammar, ReadIsWritten, ReadOnce, ReadStands, TextsDiffer, WrittenIsRead};
+ghost use Rattle.brisk_derivtext.specs.Laws.{BeginningsStand, FailsOnce, GrammarIsRead, LinesAreCut, LinesAreFound, LinesBegin, LinesDiffer, ReadIsGrammar, ReadIsWritten, ReadOnce, ReadStands, SecondIsRead, TextsDiffer, WrittenIsRead};
 ghost use Rattle.brisk_derivtext.specs.Lined.{LinesAreTheText};
 
 /// Lines that differ have texts that differ, where they are legal.
@@ -65,6 +65,11 @@ pub fn grammar_is_read()
 /// What is read in format 2 is a text by its grammar.
 pub fn read_is_grammar()
     ensures { ReadIsGrammar }
+{}
+
+/// What is written in format 2 is read back, as the same derivation.
+pub fn second_is_read()
+    ensures { SecondIsRead }
 {}
 
 /// To read the lines of a text one by one is to read the text.

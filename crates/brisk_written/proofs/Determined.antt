@@ -14,7 +14,7 @@ use Rattle.brisk_parse.proofs.Judged.{judged}
 use Rattle.brisk_parse.proofs.JudgedSequences.{whole_judged}
 use Rattle.brisk_parse.proofs.NothingPassedItems.{sequence_free}
 use Rattle.brisk_seq.specs.declared.tree.SeqProgram.{SeqProgram}
-use Rattle.brisk_written.specs.Written.{SpellingsDetermine}
+use Rattle.brisk_written.specs.Laws.{SpellingsDetermine}
 
 -- each limit is this number
 abbrev every : ℕ → Limits

@@ -31,7 +31,8 @@ use Rattle.brisk_rules.specs.Following.{nothing_follows}
 use Rattle.brisk_sound.proofs.Outcomes.{steps_come}
 use Rattle.brisk_sound.proofs.Starts.{first_tidy}
 use Rattle.brisk_sound.proofs.Top.{valid_is}
-use Rattle.brisk_written.specs.Written.{IsTextOf, ValidIsWritten}
+use Rattle.brisk_written.specs.Laws.{ValidIsWritten}
+use Rattle.brisk_written.specs.Written.{IsTextOf}
 use Rattle.brisk_written.proofs.Inside.{InItem, InItems}
 use Rattle.brisk_written.proofs.Keeping.{steps_keep}
 use Rattle.brisk_written.proofs.Numbered.{steps_small}

@@ -1,6 +1,6 @@
 //! The laws of the sequential programs of valid derivations as texts. The functions do nothing.
 
-ghost use Rattle.brisk_written.specs.Written.{SpellingsDetermine, ValidIsWritten};
+ghost use Rattle.brisk_written.specs.Laws.{SpellingsDetermine, ValidIsWritten};
 
 /// Where a source holds the program, the sequential program of a valid derivation is levelled, and the tokens of its layout are
 /// its spelling.

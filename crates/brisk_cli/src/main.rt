@@ -28,6 +28,7 @@ use brisk_io::{RealFolder, RealSink};
 use serve::serve;
 use status::Status;
 use std::env;
+use std::io::ErrorKind;
 use std::process::ExitCode;
 
 fn main(rt: HostRuntime) -> ExitCode {
@@ -36,8 +37,11 @@ fn main(rt: HostRuntime) -> ExitCode {
             let _program = words.next();
             words.collect::<Vec<String>>(rt.alloc())
         }
-        // words that aren't text have no listed form
-        Err(_) => Ok(Vec::new(rt.alloc())),
+        Err(error) => match error.kind() {
+            ErrorKind::OutOfMemory => return ExitCode::from(Status::NoMemory.number()),
+            // words that aren't text have no listed form
+            _ => Ok(Vec::new(rt.alloc())),
+        },
     };
     let Ok(words) = words else {
         return ExitCode::from(Status::NoMemory.number());

@@ -1,4 +1,3 @@
-pub mod Alone
 pub mod Decided
 pub mod Drilling
 pub mod Drills

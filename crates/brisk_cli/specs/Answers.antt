@@ -7,7 +7,7 @@ use Rattle.brisk_cli.specs.declared.answer.Stopped.TheVariants as stopped
 use Rattle.brisk_cli.specs.declared.status.Status.{Status}
 use Rattle.brisk_cli.specs.declared.status.Status.TheVariants.{Done, Refused, Usage, BadInput, NoFile, ReadFault, WriteFault, NoMemory}
 use Rattle.brisk_cli.specs.Checks.{OfDerivation}
-use Rattle.brisk_cli.specs.Commands.{Command, Rewrite, Derive, Check, Upgrade, Run, Order, Drill, command_of}
+use Rattle.brisk_cli.specs.Commands.{Command, Rewrite, Derive, Check, Run, Order, Drill, command_of}
 use Rattle.brisk_cli.specs.Drills.{OfDrill}
 use Rattle.brisk_cli.specs.Files.{Text, Put}
 use Rattle.brisk_cli.specs.Languages.{OfText, sources, sequences}
@@ -15,7 +15,6 @@ use Rattle.brisk_cli.specs.Lines.{file_line}
 use Rattle.brisk_cli.specs.Orders.{OfChoices}
 use Rattle.brisk_cli.specs.Rewriting.{OfDeriving, OfRewriting}
 use Rattle.brisk_cli.specs.Runs.{OfSchedule}
-use Rattle.brisk_cli.specs.Upgrades.{OfUpgrading}
 
 -- the number with which the program ends
 abbrev pub number_of : Status → ℕ
@@ -81,10 +80,6 @@ OfCheck f g h files failed status text =
     OfFile sequential_limit g (files g) (is_failed 1 failed) (λ sequential.
     OfFile sequential_limit h (files h) (is_failed 2 failed) (OfDerivation P sequential)))) status text
 
--- `upgrade DERIV`: the derivation is read, and written in format 2
-abbrev pub OfUpgrade : Text → Files → Option ℕ → Status → Text → Type 0
-OfUpgrade f files failed status text = OfFile sequential_limit f (files f) (is_failed 0 failed) OfUpgrading status text
-
 -- `run F SCHEDULE`: the source is read and judged, then the schedule is read and judged, and played
 abbrev pub OfRun : Text → Text → Files → Option ℕ → Status → Text → Type 0
 OfRun f g files failed status text =
@@ -101,7 +96,6 @@ OfWords None files failed status text = (status ≡ Usage) × (text ≡ codes "u
 OfWords (Some (Rewrite f)) files failed status text = OfRewrite f files failed status text
 OfWords (Some (Derive f)) files failed status text = OfDerive f files failed status text
 OfWords (Some (Check f g h)) files failed status text = OfCheck f g h files failed status text
-OfWords (Some (Upgrade f)) files failed status text = OfUpgrade f files failed status text
 OfWords (Some (Run f g)) files failed status text = OfRun f g files failed status text
 OfWords (Some (Order f g)) files failed status text = OfOrder f g files failed status text
 OfWords (Some (Drill n)) files failed status text = OfDrill n status text

@@ -4,13 +4,12 @@ use Rattle.std.specs.Fmt.{decimal}
 use Rattle.std.specs.Str.{bytes_eq}
 use Rattle.brisk_cli.specs.Files.{Text}
 
--- `rewrite F`, `derive F`, `check F SEQ DERIV`, `upgrade DERIV`, `run F SCHEDULE` and `order SEQ CHOICES`, with the names of
--- their files, and `drill N` with its number
+-- `rewrite F`, `derive F`, `check F SEQ DERIV`, `run F SCHEDULE` and `order SEQ CHOICES`, with the names of their files, and
+-- `drill N` with its number
 pub data Command : Type 0 where
   Rewrite : (source : Text) → Command
   Derive : (source : Text) → Command
   Check : (source sequential derivation : Text) → Command
-  Upgrade : (derivation : Text) → Command
   Run : (source schedule : Text) → Command
   Order : (sequential choices : Text) → Command
   Drill : (number : ℕ) → Command
@@ -31,7 +30,7 @@ drill_of w n = if bytes_eq w (codes "drill") then option_map Drill (drill_number
 -- the command of words, if they have a form
 abbrev pub command_of : List Text → Option Command
 command_of (w ∷ f ∷ []) =
-    if bytes_eq w (codes "rewrite") then Some (Rewrite f) else if bytes_eq w (codes "derive") then Some (Derive f) else if bytes_eq w (codes "upgrade") then Some (Upgrade f) else drill_of w f
+    if bytes_eq w (codes "rewrite") then Some (Rewrite f) else if bytes_eq w (codes "derive") then Some (Derive f) else drill_of w f
 command_of (w ∷ f ∷ g ∷ []) =
     if bytes_eq w (codes "run") then Some (Run f g) else if bytes_eq w (codes "order") then Some (Order f g) else None
 command_of (w ∷ f ∷ g ∷ h ∷ []) = if bytes_eq w (codes "check") then Some (Check f g h) else None

@@ -11,4 +11,3 @@ pub mod Lines
 pub mod Orders
 pub mod Rewriting
 pub mod Runs
-pub mod Upgrades

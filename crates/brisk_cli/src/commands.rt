@@ -1,6 +1,6 @@
 //! The commands, each with the files that it reads.
 ghost use Rattle.std.specs.Prelude.{IfSome};
-ghost use Rattle.brisk_cli.specs.Answers.{IfAnswer, IsDue, OfCheck, OfDerive, OfOrder, OfRewrite, OfRun, OfUpgrade, Replies};
+ghost use Rattle.brisk_cli.specs.Answers.{IfAnswer, IsDue, OfCheck, OfDerive, OfOrder, OfRewrite, OfRun, Replies};
 
 use crate::answer::{Answer, Stopped};
 use crate::checked::checked;
@@ -10,7 +10,6 @@ use crate::order::run_choices;
 use crate::rewritten::rewritten;
 use crate::run::run_schedule;
 use crate::source::{sequence, source};
-use crate::upgraded::upgraded;
 use brisk_io::Folder;
 use std::alloc::Global;
 
@@ -59,15 +58,6 @@ pub fn check<F: Folder>(
     let text = file(alloc, folder, sequential, SEQUENTIAL)?;
     let steps = file(alloc, folder, derivation, SEQUENTIAL)?;
     Ok(checked(alloc, &program, &text, &steps)?)
-}
-
-/// What is answered for `upgrade DERIV`.
-pub fn upgrade<F: Folder>(alloc: Global, folder: &mut F, name: &str) -> Result<Answer, Stopped>
-    ensures due { IfAnswer (λ status text. IsDue (F.misses folder.old) (F.misses folder.new) (F.faults folder.old) (F.faults folder.new) status) result }
-    ensures told { IfSome (F.files folder.old) (λ files. IfAnswer (Replies (F.faults folder.old) (F.faults folder.new) (OfUpgrade name.now files)) result) }
-{
-    let bytes = file(alloc, folder, name, SEQUENTIAL)?;
-    Ok(upgraded(alloc, &bytes)?)
 }
 
 /// What is answered for `run F SCHEDULE`.

@@ -240,8 +240,9 @@ fn each_derivation_has_its_verdict(rt: HostRuntime) -> Result<(), Fail> {
     Ok(())
 }
 
-// The parts p1 to p30, of which each but the first uses the one before twice.
-pub fn doubled(alloc: Global) -> Result<String, Fail> {
+#[test]
+fn a_part_that_is_used_too_often_is_told(rt: HostRuntime) -> Result<(), Fail> {
+    let alloc = rt.alloc();
     let mut text = String::from_str(alloc, "brisk derivation 2\npart p1\nassign A\nendpart\n")?;
     for part in 2u32..31 {
         let before = part - 1;
@@ -249,13 +250,6 @@ pub fn doubled(alloc: Global) -> Result<String, Fail> {
         text.push_str(&lines)?;
     }
     text.push_str("end\n")?;
-    Ok(text)
-}
-
-#[test]
-fn a_part_that_is_used_too_often_is_told(rt: HostRuntime) -> Result<(), Fail> {
-    let alloc = rt.alloc();
-    let text = doubled(alloc)?;
     let (status, written) = answered(alloc, "check F S D", ["", "", text.as_str()])?;
     assert_eq!(rt; status, Status::BadInput);
     assert_eq!(rt; written.as_slice(), b"derivation TooLarge 87\n".as_slice());

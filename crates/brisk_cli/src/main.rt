@@ -22,13 +22,11 @@ mod source;
 mod status;
 #[cfg(test)]
 mod tests;
-mod upgraded;
 
 use brisk_io::{RealFolder, RealSink};
 use serve::serve;
 use status::Status;
 use std::env;
-use std::io::ErrorKind;
 use std::process::ExitCode;
 
 fn main(rt: HostRuntime) -> ExitCode {
@@ -37,11 +35,8 @@ fn main(rt: HostRuntime) -> ExitCode {
             let _program = words.next();
             words.collect::<Vec<String>>(rt.alloc())
         }
-        Err(error) => match error.kind() {
-            ErrorKind::OutOfMemory => return ExitCode::from(Status::NoMemory.number()),
-            // words that aren't text have no listed form
-            _ => Ok(Vec::new(rt.alloc())),
-        },
+        // words that aren't text have no listed form
+        Err(_) => Ok(Vec::new(rt.alloc())),
     };
     let Ok(words) = words else {
         return ExitCode::from(Status::NoMemory.number());

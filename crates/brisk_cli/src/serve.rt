@@ -8,7 +8,7 @@ ghost use Rattle.brisk_cli.specs.Decided.{RefusalsAreShown};
 ghost use Rattle.brisk_cli.specs.Headline.{Headline};
 
 use crate::answer::{Answer, Stopped};
-use crate::commands::{check, derive, order, rewrite, run, upgrade};
+use crate::commands::{check, derive, order, rewrite, run};
 use crate::drilled::drill;
 use crate::files::write_all;
 use crate::status::Status;
@@ -38,9 +38,6 @@ fn of_two<F: Folder>(
     }
     if word == "derive" {
         return derive(alloc, folder, first);
-    }
-    if word == "upgrade" {
-        return upgrade(alloc, folder, first);
     }
     drill(alloc, word, first)
 }

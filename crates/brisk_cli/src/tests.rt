@@ -1,5 +1,4 @@
 //! What is answered and written, over folders and sinks in memory.
-use crate::derivations::doubled;
 use crate::serve::serve;
 use crate::status::Status;
 use brisk_io::{File, MemFolder, MemSink};
@@ -197,66 +196,6 @@ fn a_drill_has_its_line(rt: HostRuntime) -> Result<(), Fail> {
     Ok(())
 }
 
-// The derivation of a set that is told something twice, and the same in format 2.
-const TWICE: &str = "brisk derivation 1
-for Ws by H drop
-pass H Ws T
-close
-for Ws by H drop
-pass H Ws T
-close
-end
-";
-
-const TWICE_SHARED: &str = "brisk derivation 2
-part p1
-for Ws by H drop
-pass H Ws T
-close
-endpart
-use p1
-use p1
-end
-";
-
-#[test]
-fn a_derivation_is_written_in_format_2(rt: HostRuntime) -> Result<(), Fail> {
-    for (bytes, status, text) in [
-        (TWICE, Status::Done, TWICE_SHARED),
-        (TWICE_SHARED, Status::Done, TWICE_SHARED),
-        (
-            "brisk derivation 1\nassign A\nassign A\nend\n",
-            Status::Done,
-            "brisk derivation 2\nassign A\nassign A\nend\n",
-        ),
-        (
-            "brisk derivation 1\nwhile A drop\nrepeat Ws drop\nclose\nclose\nwhile A drop\nrepeat Ws drop\nclose\nclose\nend\n",
-            Status::Done,
-            "brisk derivation 2\npart p1\nrepeat Ws drop\nclose\nendpart\npart p2\nwhile A drop\nuse p1\nclose\nendpart\nuse p2\nuse p2\nend\n",
-        ),
-        (
-            "brisk derivation 2\npart p1\nassign A\nendpart\nuse p2\nend\n",
-            Status::BadInput,
-            "derivation Line 5\n",
-        ),
-        ("", Status::BadInput, "derivation Line 1\n"),
-    ] {
-        let (answer, written) = served(rt.alloc(), "upgrade F", bytes.as_bytes())?;
-        assert_eq!(rt; answer, status, "of {bytes}");
-        assert_eq!(rt; written.as_slice(), text.as_bytes(), "of {bytes}");
-    }
-    Ok(())
-}
-
-#[test]
-fn parts_that_grow_too_large_are_told(rt: HostRuntime) -> Result<(), Fail> {
-    let text = doubled(rt.alloc())?;
-    let (status, written) = served(rt.alloc(), "upgrade F", text.as_str().as_bytes())?;
-    assert_eq!(rt; status, Status::BadInput);
-    assert_eq!(rt; written.as_slice(), b"derivation TooLarge 87\n".as_slice());
-    Ok(())
-}
-
 #[test]
 fn other_words_are_usage(rt: HostRuntime) -> Result<(), Fail> {
     for text in [
@@ -268,8 +207,6 @@ fn other_words_are_usage(rt: HostRuntime) -> Result<(), Fail> {
         "derive F F",
         "check F F",
         "check F F F F",
-        "upgrade",
-        "upgrade F F",
         "drill",
         "drill 0",
         "drill 02",

@@ -14,6 +14,8 @@ mod programs;
 #[cfg(test)]
 mod repeated;
 #[cfg(test)]
+mod shared;
+#[cfg(test)]
 mod unfolded;
 #[cfg(test)]
 mod walked;

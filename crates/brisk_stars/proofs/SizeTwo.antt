@@ -45,26 +45,27 @@ members_of_sets P = flat_map (λ (q : RoleText). members q.name 2) (filter (λ (
 pub order_is : (P : Program) (r : RoleText) → IsCentre P r → plain_order P 2 ≡ members_of_sets P ++ single r.name ∷ []
 order_is P r centre = ap (λ rs. members_of_sets P ++ map (λ (q : RoleText). single q.name) rs) centre
 
--- they are of other roles than the centre
+-- a set has another name than the centre
+set_is_apart : (P : Program) (r q : RoleText) → IsStarSource P → IsCentre P r → role_named P.roles q.name ≡ Some q → q.many ≡ true → same_name r.name q.name ≡ false
+set_is_apart P r q source centre here many = elim (same_name r.name q.name) as (λ b. same_name r.name q.name ≡ b → b ≡ false) [
+  | true ↦ λ same. absurd (
+      let f = found P r 1 (omega arith) source centre in
+      let one : Some q ≡ Some r = sym here ∙ ap (role_named P.roles) (sym (exact_name r.name q.name same)) ∙ f.0 in
+      let both = sym many ∙ ap (λ (z : RoleText). z.many) (same_Some q r one) ∙ f.1 in cc)
+  | false ↦ λ e. refl
+] refl
+
+-- the members are of other roles than the centre
 pub others : (P : Program) (r : RoleText) → IsStarSource P → IsCentre P r → AllByRecursion (λ (p : Pid). same_name r.name p.role ≡ false) (members_of_sets P)
 others P r source centre = by P.roles (roles_found P source.typed)
   where
-    apart : (q : RoleText) → role_named P.roles q.name ≡ Some q → q.many ≡ true → same_name r.name q.name ≡ false
-    apart q here many = elim (same_name r.name q.name) as (λ b. same_name r.name q.name ≡ b → b ≡ false) [
-      | true ↦ λ same. absurd (
-          let f = found P r 1 (omega arith) source centre in
-          let one : Some q ≡ Some r = sym here ∙ ap (role_named P.roles) (sym (exact_name r.name q.name same)) ∙ f.0 in
-          let both = sym many ∙ ap (λ (z : RoleText). z.many) (same_Some q r one) ∙ f.1 in cc)
-      | false ↦ λ e. refl
-    ] refl
-
     by : (some : List RoleText) → AllByRecursion (λ (q : RoleText). role_named P.roles q.name ≡ Some q) some →
         AllByRecursion (λ (p : Pid). same_name r.name p.role ≡ false) (flat_map (λ (q : RoleText). members q.name 2) (filter (λ (q : RoleText). q.many) some))
     by [] all = tt
     by (q ∷ qs) all =
         let more = by qs all.1 in
         elim q.many as (λ b. q.many ≡ b → AllByRecursion (λ (p : Pid). same_name r.name p.role ≡ false) (flat_map (λ (q : RoleText). members q.name 2) (cond b (q ∷ filter (λ (q : RoleText). q.many) qs) (filter (λ (q : RoleText). q.many) qs)))) [
-          | true ↦ λ many. (let off = apart q all.0 many in (off, (off, more)))
+          | true ↦ λ many. (let off = set_is_apart P r q source centre all.0 many in (off, (off, more)))
           | false ↦ λ one. more
         ] refl
 
@@ -115,7 +116,7 @@ module _ (P : Program) (r : RoleText) (source : IsStarSource P) (centre : IsCent
     λ many.
         let zero_code : s0.code (member q.name 0) ≡ q.code = ap (λ o. code_in (with_member (plain_instance P 2) 0 o)) here ∙ ap (λ b. code_in (if nat_lt 0 (if b then 2 else 1) then Some q else None)) many in
         let one_code : s0.code (member q.name 1) ≡ q.code = ap (λ o. code_in (with_member (plain_instance P 2) 1 o)) here ∙ ap (λ b. code_in (if nat_lt 1 (if b then 2 else 1) then Some q else None)) many in
-        let apart = all_apart q here many in
+        let apart = set_is_apart P r q source centre here many in
         let a : weight r.name s0 (member q.name 0) ≡ statements q.code = ap (λ b. if b && true then cost s0.sizes (s0.code (member q.name 0)) else statements (s0.code (member q.name 0))) apart ∙ ap statements zero_code in
         let b : weight r.name s0 (member q.name 1) ≡ statements q.code = ap (λ b. if b && false then cost s0.sizes (s0.code (member q.name 1)) else statements (s0.code (member q.name 1))) apart ∙ ap statements one_code in
         omega (arith, a, b),
@@ -126,15 +127,6 @@ module _ (P : Program) (r : RoleText) (source : IsStarSource P) (centre : IsCent
           | false ↦ (let a = ap statements code in omega (arith, a))
         ],
   )
-    where
-      all_apart : (q : RoleText) → role_named P.roles q.name ≡ Some q → q.many ≡ true → same_name r.name q.name ≡ false
-      all_apart q here many = elim (same_name r.name q.name) as (λ b. same_name r.name q.name ≡ b → b ≡ false) [
-        | true ↦ λ same. absurd (
-            let f = found P r 1 (omega arith) source centre in
-            let one : Some q ≡ Some r = sym here ∙ ap (role_named P.roles) (sym (exact_name r.name q.name same)) ∙ f.0 in
-            let both = sym many ∙ ap (λ (z : RoleText). z.many) (same_Some q r one) ∙ f.1 in cc)
-        | false ↦ λ e. refl
-      ] refl
 
   -- so there is room for all events
   pub room_at_two : total (plain_order P 2) (weight r.name s0) ≤ 100000
